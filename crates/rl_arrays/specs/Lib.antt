@@ -1,0 +1,10 @@
+pub mod Words
+pub mod Names
+pub mod Lists
+pub mod Statements
+pub mod Sizes
+pub mod KeyRules
+pub mod Rules
+pub mod Valid
+pub mod TableMachine
+pub mod Section

@@ -1,0 +1,11 @@
+pub mod Auto
+pub mod Follows
+pub mod Nodes
+pub mod Marks
+pub mod Scans
+pub mod Runs
+pub mod Language
+pub mod Sites
+pub mod Refused
+pub mod Laws
+pub mod Rows

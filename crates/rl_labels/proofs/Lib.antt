@@ -1,0 +1,9 @@
+pub mod Gathered
+pub mod LabelOrders
+pub mod Restamp
+pub mod StampLaws
+pub mod Once
+pub mod TableLaws
+pub mod CutLaws
+pub mod Survivors
+pub mod Leads

@@ -1,0 +1,7 @@
+use Rattle.std.proofs.Common.{◌≡◌, take, map}
+use Rattle.rl_sets.specs.Sets.{joined}
+use Rattle.rl_labels.specs.Carries.{actions_of}
+use Rattle.rl_labels.proofs.carry.all_stamps.Given as goal
+
+abbrev pub invariant-loop-part : goal.invariant-loop-part
+invariant-loop-part l = l.stamps.items ≡ joined (map actions_of (take l.part-index l.parts))

@@ -1,0 +1,21 @@
+pub mod Ends
+pub mod Same
+pub mod Moves
+pub mod Plays
+pub mod Turns
+pub mod Law
+pub mod Runs
+pub mod Cuts
+pub mod Twins
+pub mod Answers
+pub mod Spent
+pub mod Hosted
+pub mod Compose
+pub mod SameRuns
+pub mod Quotient
+pub mod Stable
+pub mod Hosts
+pub mod Stands
+pub mod Descents
+pub mod Starts
+mod Rows

@@ -1,0 +1,14 @@
+pub mod Machine
+pub mod Play
+pub mod Picks
+pub mod Turn
+pub mod Run
+pub mod Verdict
+pub mod Fine
+pub mod Chain
+pub mod Laws
+pub mod Hosted
+pub mod Twin
+pub mod Alike
+pub mod Classes
+pub mod Numbers
