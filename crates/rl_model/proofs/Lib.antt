@@ -1,0 +1,13 @@
+pub mod PartTwins
+pub mod Embedded
+pub mod Bounds
+pub mod RuleLaws
+pub mod WellFormedLaws
+pub mod HonestTwins
+pub mod Values
+pub mod ActionRows
+pub mod OperatorRows
+pub mod ControlRows
+pub mod PrunedRows
+pub mod ScannerRows
+pub mod CallingRows

@@ -1,0 +1,11 @@
+pub mod Parts
+pub mod Words
+pub mod Tokens
+pub mod Grammar
+pub mod Pieces
+pub mod Names
+pub mod NameTable
+pub mod Steps
+pub mod Form
+pub mod Reading
+pub mod Rewriting

@@ -1,0 +1,9 @@
+mod Rows
+pub mod Projection
+pub mod Grows
+pub mod Whole
+pub mod Twins
+pub mod LineTexts
+pub mod Forms
+pub mod FirstScripts
+pub mod OwnPicks

@@ -1,0 +1,20 @@
+//! What a replay is: the script language, the host that a script makes, the lines of a run, and what a replay writes;
+//! definitions and laws, and the code of them that today's program uses.
+#![tactic(auto)]
+
+mod first_form;
+mod host;
+mod laws;
+mod lines;
+mod look_ups;
+mod script;
+
+pub use first_form::read_first_form;
+pub use host::answer_by_itself;
+pub use laws::{pieces_add_up, sessions_are_apart, twins_write_the_same, whole_inputs_are_one_run};
+pub use lines::{push_call_line, push_end_line, push_left_line, push_stop_line};
+pub use look_ups::LookUps;
+pub use script::{Event, Line, Script, ScriptFault};
+
+#[cfg(test)]
+mod tests;
