@@ -1,0 +1,10 @@
+pub mod ArraysRight
+pub mod Chains
+pub mod Filled
+pub mod Labels
+pub mod LineAutomaton
+pub mod LineMachine
+pub mod LineTwin
+pub mod Lines
+pub mod Places
+pub mod SourceTwin

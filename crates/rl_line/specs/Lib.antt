@@ -1,0 +1,4 @@
+pub mod Elements
+pub mod Layout
+pub mod LineArrays
+pub mod SourceArrays
