@@ -1,0 +1,14 @@
+pub mod Arguments
+pub mod Asked
+pub mod CountLaws
+pub mod Elements
+pub mod EntryLaws
+pub mod KeyLaws
+pub mod Kinded
+pub mod ListNumbers
+pub mod Members
+pub mod NameLaws
+pub mod Places
+pub mod Shifts
+pub mod SumLaws
+pub mod Totals

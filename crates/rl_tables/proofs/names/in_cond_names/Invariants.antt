@@ -1,0 +1,7 @@
+use Rattle.std.proofs.Common.{◌<◌, ℕ}
+use Rattle.rl_arrays.specs.Valid.{Right}
+use Rattle.rl_arrays.specs.declared.arrays.ArrayName.TheVariants as the
+use Rattle.rl_tables.proofs.names.in_cond_names.Given as goal
+
+abbrev pub invariant-loop-i : goal.invariant-loop-i
+invariant-loop-i l = (k : ℕ) → k < l.i → Right l.a the.CondNames k
