@@ -10,5 +10,6 @@ pub mod Members
 pub mod NameLaws
 pub mod Places
 pub mod Shifts
+pub mod SmallArrays
 pub mod SumLaws
 pub mod Totals

@@ -13,6 +13,7 @@ mod look_ups;
 mod names;
 mod numbers;
 mod offsets;
+mod rows;
 mod statement_of;
 mod statements;
 mod states;
@@ -23,5 +24,6 @@ mod tables;
 mod tests;
 
 pub use rl_arrays::{ArrayName, Arrays, BadValue};
+pub use rows::arrays_are_checked;
 pub use step::Step;
 pub use tables::Tables;
