@@ -1,5 +1,5 @@
 -- The entries that statements name in valid arrays.
-use Rattle.std.proofs.Common.{◌≡◌, ℕ, ◌<◌, ◌≤◌, Bool, true, false, length, Option, Some, None, refl, sym, subst, arith}
+use Rattle.std.proofs.Common.{◌≡◌, ℕ, Bool, true, false, Some, None, refl, sym, subst, arith}
 use Rattle.std.proofs.lemmas.Int.{ints}
 use Rattle.std.proofs.lemmas.Option.{slice_get_within}
 use Rattle.std.specs.Prelude.{ℤ, pos, slice_get, unwrap_or, option_and_then, IfSome, IsTrue, if◌then◌else◌}
@@ -10,7 +10,7 @@ use Rattle.rl_arrays.specs.declared.arrays.ArrayName.TheVariants as the
 use Rattle.rl_arrays.specs.Words.{natural}
 use Rattle.rl_arrays.specs.Statements.{kind_of, names_entry, statement_of}
 use Rattle.rl_arrays.specs.Rules.{ArgumentSays, IsEntry}
-use Rattle.rl_arrays.specs.Valid.{Valid, Right}
+use Rattle.rl_arrays.specs.Valid.{Valid}
 use Rattle.rl_tables.specs.Steps.{IsId, IsEntryNumber}
 use Rattle.rl_tables.proofs.Elements.{right, has-due, element, if_at, nonneg}
 use Rattle.rl_tables.proofs.Places.{then_some}

@@ -1,11 +1,9 @@
 -- The cells and entries of a key in valid arrays.
-use Rattle.std.proofs.Common.{◌≡◌, ℕ, zero, suc, ◌+◌, ◌-◌, ◌*◌, ◌^◌, ◌<◌, ◌≤◌, Bool, true, false, cond, not, nat_eq, ◌&&◌, List, [], ◌∷◌, length, Option, Some, None, refl, sym, ◌∙◌, ap, subst, arith, take}
+use Rattle.std.proofs.Common.{◌≡◌, ℕ, zero, suc, ◌+◌, ◌*◌, ◌^◌, ◌<◌, ◌≤◌, Bool, true, false, nat_eq, ◌&&◌, List, [], ◌∷◌, length, Option, Some, None, refl, sym, subst, arith}
 use lib.Count.{ones}
 use Rattle.std.proofs.lemmas.Bool.Decides.{nat_tests}
-use Rattle.std.specs.Prelude.{ℤ, pos, slice_get, bit_and, ◌==◌, if◌then◌else◌, count_ones, int_le}
-use Rattle.std.specs.List.{filter, position}
+use Rattle.std.specs.Prelude.{ℤ, bit_and, ◌==◌, if◌then◌else◌, count_ones, int_le}
 use Rattle.std.specs.Option.{option_map}
-use Rattle.rl_arrays.specs.declared.arrays.Arrays.{Arrays}
 use Rattle.rl_arrays.specs.TableMachine.{asked_bits, entry_number, range_of}
 
 -- as many entries as truths of the asked conditions: of each condition one bit

@@ -1,6 +1,6 @@
 -- Members of lists, parts of lists, and statements at the outer level.
-use Rattle.std.proofs.Common.{◌≡◌, ◌⊎◌, ℕ, zero, suc, ◌+◌, ◌<◌, ◌≤◌, List, [], ◌∷◌, length, min, map, take, drop, Bool, true, false, Option, Some, None, refl, sym, ap, ◌∙◌, inl, inr, arith}
-use Rattle.std.specs.Prelude.{ℤ, pos, not, ◌≤ℤ◌, ◌==◌, ◌||◌, IsSomeAnd, slice_get, slice_index_or, if◌then◌else◌}
+use Rattle.std.proofs.Common.{◌≡◌, ◌⊎◌, ℕ, zero, suc, ◌+◌, ◌<◌, ◌≤◌, List, [], ◌∷◌, length, min, map, take, drop, Bool, true, false, Some, None, refl, sym, inl, inr, arith}
+use Rattle.std.specs.Prelude.{ℤ, pos, not, ◌≤ℤ◌, ◌==◌, slice_get, slice_index_or, if◌then◌else◌}
 use Rattle.std.specs.List.{Contains, list_any}
 use Rattle.std.specs.Ordering.{int_eq}
 use Rattle.std.proofs.lemmas.Bool.{cases_lt}

@@ -1,6 +1,6 @@
 -- Each entry is of one cell, and each cell of one state.
-use Rattle.std.proofs.Common.{◌≡◌, ℕ, zero, suc, ◌+◌, ◌-◌, ◌^◌, ◌<◌, ◌≤◌, List, [], ◌∷◌, length, Option, Some, None, refl, sym, ap, ◌∙◌, inl, inr, arith, lit<, take, length-take, subst}
-use Rattle.std.specs.Prelude.{ℤ, pos, negsuc, ◌+ℤ◌, ◌≤ℤ◌, ◌<ℤ◌, ◌↔◌, IsSomeAnd, IfSome, slice_get, slice_index_or, count_ones}
+use Rattle.std.proofs.Common.{◌≡◌, ℕ, zero, suc, ◌+◌, ◌-◌, ◌<◌, ◌≤◌, List, [], ◌∷◌, length, Option, Some, None, refl, sym, ap, ◌∙◌, inl, inr, arith, lit<, take, length-take, subst}
+use Rattle.std.specs.Prelude.{ℤ, pos, negsuc, ◌≤ℤ◌, ◌<ℤ◌, ◌↔◌, IsSomeAnd, IfSome, slice_get, slice_index_or}
 use Rattle.std.specs.List.Sorted.{IsPartitionPoint}
 use Rattle.std.proofs.lemmas.Bool.{cases_lt}
 use Rattle.std.proofs.lemmas.Int.{ints}
@@ -10,10 +10,10 @@ use Rattle.rl_arrays.specs.declared.arrays.Arrays.{Arrays}
 use Rattle.rl_arrays.specs.declared.arrays.ArrayName.TheVariants as the
 use Rattle.rl_arrays.specs.Words.{natural, plus, sum_before, IfAt}
 use Rattle.rl_arrays.specs.Sizes.{states, cells_of, entries_of, cells_end, entries_end, one_more, IsClosing, IsIn, IsEntryOf}
-use Rattle.rl_arrays.specs.Rules.{LengthSays, IsSum, CellEntrySays}
-use Rattle.rl_arrays.specs.Valid.{Right, FirstWrong, SoundBefore}
+use Rattle.rl_arrays.specs.Rules.{LengthSays, IsSum}
+use Rattle.rl_arrays.specs.Valid.{FirstWrong, SoundBefore}
 use Rattle.rl_tables.specs.Ends.{IsInside}
-use Rattle.rl_tables.proofs.SumLaws.{AreWidths, total, known, rise, in_total, total_none, one_in, in_below, found_in, fewer}
+use Rattle.rl_tables.proofs.SumLaws.{AreWidths, total, known, rise, total_none, one_in, in_below, found_in, fewer}
 
 -- what is said of an element that is there
 said : (xs : List ℤ) (i : ℕ) (P : ℤ → Type 0) → i < length xs → IfAt xs i P → IsSomeAnd (slice_get xs i) P

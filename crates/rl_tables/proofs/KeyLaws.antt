@@ -1,12 +1,12 @@
 -- First wrong indexes of two rules, and what is said of the places of a state's keys.
-use Rattle.std.proofs.Common.{◌≡◌, ℕ, zero, suc, ◌+◌, ◌-◌, ◌*◌, ◌/◌, ◌%◌, ◌<◌, ◌≤◌, List, length, Option, Some, None, refl, sym, ap, ◌∙◌, inl, inr, arith}
-use Rattle.std.specs.Prelude.{ℤ, pos, negsuc, ◌+ℤ◌, ◌≤ℤ◌, ◌<ℤ◌, IsSomeAnd, IfSome, slice_get, min, max}
+use Rattle.std.proofs.Common.{◌≡◌, ℕ, suc, ◌+◌, ◌-◌, ◌*◌, ◌/◌, ◌%◌, ◌<◌, ◌≤◌, List, length, Option, Some, None, inl, inr, arith}
+use Rattle.std.specs.Prelude.{ℤ, pos, negsuc, ◌+ℤ◌, ◌≤ℤ◌, ◌<ℤ◌, IsSomeAnd, IfSome, slice_get, min}
 use Rattle.std.proofs.lemmas.Bool.{cases_lt}
 use Rattle.std.proofs.lemmas.Int.{ints}
 use Rattle.std.proofs.lemmas.Option.{slice_get_past}
 use Rattle.rl_arrays.specs.declared.arrays.Arrays.{Arrays}
 use Rattle.rl_arrays.specs.declared.arrays.ArrayName.TheVariants as the
-use Rattle.rl_arrays.specs.Words.{natural, sum_before, IfAt, IsFirstWrong}
+use Rattle.rl_arrays.specs.Words.{sum_before, IfAt, IsFirstWrong}
 use Rattle.rl_arrays.specs.Sizes.{states, keys_of, keys_end, IsClosing}
 use Rattle.rl_arrays.specs.KeyRules.{IsSingle, IsEnd, IsKey, IsAbove, IsOutside, KeySays}
 use Rattle.rl_arrays.specs.Valid.{Right, span}

@@ -1,22 +1,22 @@
 -- The machine of valid arrays keeps the rules on kinds, and its look-ups lead to states and entries that exist.
-use Rattle.std.proofs.Common.{◌≡◌, ◌≢◌, ℕ, zero, suc, ◌+◌, ◌<◌, ◌≤◌, Bool, true, false, ◌&&◌, List, [], ◌∷◌, map, length, take, drop, Option, Some, None, refl, sym, ◌∙◌, ap, subst, arith, nat_lt, nat_le, nat_eq}
+use Rattle.std.proofs.Common.{◌≡◌, ◌≢◌, ℕ, zero, suc, ◌+◌, ◌<◌, ◌≤◌, Bool, true, false, List, [], ◌∷◌, length, Some, None, refl, sym, ◌∙◌, ap, subst, arith, nat_lt, nat_le, nat_eq}
 use Rattle.std.proofs.lemmas.Bool.Decides.{nat_tests}
 use Rattle.std.proofs.lemmas.Int.{ints}
 use Rattle.std.proofs.lemmas.Option.{slice_get_past}
-use Rattle.std.specs.Prelude.{ℤ, pos, negsuc, ◌≤ℤ◌, ◌<ℤ◌, ◌==◌, slice_get, option_and_then, if◌then◌else◌, IfSome, IsTrue}
+use Rattle.std.specs.Prelude.{ℤ, pos, ◌≤ℤ◌, ◌==◌, slice_get, if◌then◌else◌}
 use Rattle.std.specs.List.{AllByRecursion, Contains}
 use Rattle.rl_types.specs.declared.numbers.Key.{Key}
 use Rattle.rl_run.specs.Machine.{Go}
-use Rattle.rl_run.specs.Fine.{IsKinded, IsQuiet}
+use Rattle.rl_run.specs.Fine.{IsKinded}
 use Rattle.rl_arrays.specs.declared.arrays.Arrays.{Arrays}
 use Rattle.rl_arrays.specs.declared.arrays.ArrayName.TheVariants as the
-use Rattle.rl_arrays.specs.Words.{natural, number_at, IfAt, IsBetween}
+use Rattle.rl_arrays.specs.Words.{natural, number_at, IsBetween}
 use Rattle.rl_arrays.specs.Sizes.{states, IsEntryOf}
 use Rattle.rl_arrays.specs.Lists.{members}
 use Rattle.rl_arrays.specs.Statements.{statement}
-use Rattle.rl_arrays.specs.Rules.{KindSays, HomeSays, IsHome, HasKind, MayHaveKind, TargetOf, TargetSays, StepListSays, EndListSays, EntrySays, LengthSays, ActionSays, CountSays, IsState}
-use Rattle.rl_arrays.specs.Valid.{Valid, Right}
-use Rattle.rl_arrays.specs.TableMachine.{machine, find, step_of, entry_of, cell_of, cell_within}
+use Rattle.rl_arrays.specs.Rules.{KindSays, HomeSays, IsHome, HasKind, MayHaveKind, TargetSays, EndListSays, EntrySays, LengthSays, ActionSays, CountSays, IsState}
+use Rattle.rl_arrays.specs.Valid.{Valid}
+use Rattle.rl_arrays.specs.TableMachine.{machine, find, step_of, entry_of, cell_of}
 use Rattle.rl_tables.proofs.Elements.{right, has-due, element, if_at, is_at, number-at, number_none, nonneg, between, is_between}
 use Rattle.rl_tables.proofs.Totals.{total, total-suc}
 use Rattle.rl_tables.proofs.Places.{then_some, map_some, cells, cell_is, entry_is}

@@ -2,18 +2,18 @@
 use Rattle.std.proofs.Common.{◌≡◌, ℕ, ◌+◌, ◌<◌, ◌≤◌, ◌^◌, Bool, true, false, List, length, Some, take, drop, All, refl, sym, ◌∙◌, ap, subst, arith, nat_lt}
 use Rattle.std.proofs.lemmas.Bool.Decides.{nat_tests}
 use Rattle.std.proofs.lemmas.Int.{ints}
-use Rattle.std.specs.Prelude.{ℤ, pos, ◌≤ℤ◌, ◌<ℤ◌, slice_get}
+use Rattle.std.specs.Prelude.{ℤ, pos, slice_get}
 use Rattle.rl_arrays.specs.declared.arrays.Arrays.{Arrays}
 use Rattle.rl_arrays.specs.declared.arrays.ArrayName.TheVariants as the
 use Rattle.rl_arrays.specs.Words.{natural, number_at, IsBetween}
 use Rattle.rl_arrays.specs.Lists.{IsList}
 use Rattle.rl_arrays.specs.Sizes.{states}
-use Rattle.rl_arrays.specs.Rules.{ListSays, EndListSays, TokenListSays, TargetSays, StepListSays, HomeSays, EntrySays, KindSays, HasKind, IsAction}
-use Rattle.rl_arrays.specs.Valid.{Valid, Right}
+use Rattle.rl_arrays.specs.Rules.{ListSays, EndListSays, TokenListSays, TargetSays, StepListSays, HomeSays, KindSays, HasKind}
+use Rattle.rl_arrays.specs.Valid.{Valid}
 use Rattle.rl_tables.specs.Steps.{IsId}
 use Rattle.rl_tables.proofs.Elements.{right, has-due, element, if_at, is_at, number-at, nonneg, is_between}
 use Rattle.rl_tables.proofs.Members.{members_are_actions}
-use Rattle.rl_tables.proofs.Kinded.{some_states, state_is, home_says, entry_says, kind_most}
+use Rattle.rl_tables.proofs.Kinded.{some_states, state_is, home_says, entry_says}
 
 list_is : (a : Arrays) (numbers : List ℤ) (i : ℕ) (z : ℤ) → slice_get numbers i ≡ Some z → IsList a.actions z → IsList a.actions (pos (number_at numbers i))
 list_is a numbers i z e h =

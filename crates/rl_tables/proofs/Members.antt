@@ -1,15 +1,15 @@
 -- The members of a list of valid arrays are actions.
-use Rattle.std.proofs.Common.{◌≡◌, ℕ, zero, suc, ◌+◌, ◌-◌, ◌<◌, ◌≤◌, Bool, true, false, cond, List, [], ◌∷◌, map, length, take, drop, get_or, min, All, Some, None, refl, sym, ◌∙◌, ap, subst, arith, nat_lt}
+use Rattle.std.proofs.Common.{◌≡◌, ℕ, zero, suc, ◌+◌, ◌-◌, ◌<◌, ◌≤◌, Bool, true, false, List, length, take, drop, get_or, All, refl, sym, ◌∙◌, subst, arith, nat_lt}
 use Rattle.std.proofs.lemmas.Bool.Decides.{nat_tests}
 use Rattle.std.proofs.lemmas.List.{get_or-take, get_or-drop, length-take}
 use Rattle.std.proofs.lemmas.Option.{slice_get-get_or}
-use Rattle.std.specs.Prelude.{ℤ, pos, slice_get, ◌==◌}
+use Rattle.std.specs.Prelude.{ℤ, ◌==◌}
 use Rattle.rl_arrays.specs.declared.arrays.Arrays.{Arrays}
 use Rattle.rl_arrays.specs.declared.arrays.ArrayName.TheVariants as the
-use Rattle.rl_arrays.specs.Words.{natural, number_at}
+use Rattle.rl_arrays.specs.Words.{number_at}
 use Rattle.rl_arrays.specs.Lists.{left_at, left_next}
 use Rattle.rl_arrays.specs.Rules.{IsAction, ActionSays}
-use Rattle.rl_arrays.specs.Valid.{Valid, Right}
+use Rattle.rl_arrays.specs.Valid.{Valid}
 use Rattle.rl_tables.proofs.Elements.{right, if_at}
 
 left-suc : (lists : List ℤ) (i : ℕ) → left_at lists (i + 1) ≡ left_next (left_at lists i) (number_at lists i)

@@ -1,15 +1,15 @@
 -- How many names there are, and the start entry.
-use Rattle.std.proofs.Common.{◌≡◌, ℕ, zero, suc, ◌<◌, ◌≤◌, ◌^◌, Bool, true, false, List, [], length, get_or, Option, Some, None, refl, sym, ◌∙◌, ap, subst, arith}
+use Rattle.std.proofs.Common.{◌≡◌, ℕ, zero, suc, ◌<◌, ◌≤◌, ◌^◌, true, List, [], length, get_or, Option, Some, None, refl, sym, ◌∙◌, subst, arith}
 use Rattle.std.proofs.lemmas.List.Quantifiers.{position-Some}
 use Rattle.std.proofs.lemmas.Option.{slice_get-get_or}
-use Rattle.std.specs.Prelude.{codes, unwrap_or, slice_get}
+use Rattle.std.specs.Prelude.{codes, unwrap_or}
 use Rattle.std.specs.List.{position}
 use Rattle.std.specs.Str.{bytes_eq}
 use Rattle.rl_arrays.specs.declared.arrays.Arrays.{Arrays}
 use Rattle.rl_arrays.specs.declared.arrays.ArrayName.TheVariants as the
 use Rattle.rl_arrays.specs.Names.{is_name}
 use Rattle.rl_arrays.specs.Rules.{NameSays, start_entry}
-use Rattle.rl_arrays.specs.Valid.{Valid, Right}
+use Rattle.rl_arrays.specs.Valid.{Valid}
 use Rattle.rl_tables.specs.Steps.{IsEntryNumber}
 use Rattle.rl_tables.proofs.Elements.{right, has-due, element, if_at}
 

@@ -1,23 +1,22 @@
 -- The entry that is found for a key is one of a cell of its state.
-use Rattle.std.proofs.Common.{◌≡◌, ℕ, zero, suc, ◌+◌, ◌-◌, ◌*◌, ◌^◌, ◌<◌, ◌≤◌, Bool, true, false, List, [], ◌∷◌, length, take, drop, min, Option, Some, None, refl, sym, ◌∙◌, ap, subst, arith, nat_lt}
+use Rattle.std.proofs.Common.{◌≡◌, ℕ, ◌+◌, ◌*◌, ◌^◌, ◌<◌, ◌≤◌, Bool, true, false, List, length, drop, Option, Some, None, refl, sym, ◌∙◌, ap, subst, arith, nat_lt}
 use Rattle.std.proofs.lemmas.Bool.Decides.{nat_tests}
-use Rattle.std.proofs.lemmas.Int.{ints}
 use Rattle.std.proofs.lemmas.List.{length-take}
 use Rattle.std.proofs.lemmas.List.Quantifiers.{position-Some}
 use Rattle.std.proofs.lemmas.Option.{slice_get_past}
 use Rattle.std.proofs.Math.Nat.{pow-le-pow_right}
-use Rattle.std.specs.Prelude.{ℤ, pos, negsuc, ◌≤ℤ◌, slice_get, IfSome, IsSomeAnd, option_and_then, count_ones}
+use Rattle.std.specs.Prelude.{ℤ, pos, ◌≤ℤ◌, slice_get, option_and_then, count_ones}
 use Rattle.std.specs.Option.{option_map, option_or}
 use Rattle.std.specs.List.{position}
 use Rattle.std.specs.Ordering.{int_eq}
 use Rattle.rl_arrays.specs.declared.arrays.Arrays.{Arrays}
 use Rattle.rl_arrays.specs.declared.arrays.ArrayName.TheVariants as the
-use Rattle.rl_arrays.specs.Words.{natural, number_at, sum_before, plus}
-use Rattle.rl_arrays.specs.Sizes.{states, conditions, cells_of, entries_of, cells_end, entries_end, IsClosing, IsIn, IsEntryOf}
+use Rattle.rl_arrays.specs.Words.{natural, number_at, sum_before}
+use Rattle.rl_arrays.specs.Sizes.{states, conditions, cells_of, entries_of, cells_end, IsClosing, IsEntryOf}
 use Rattle.rl_arrays.specs.Rules.{LengthSays, IsSum, AskSays, CellEntrySays}
 use Rattle.rl_arrays.specs.Valid.{Valid, Right}
 use Rattle.rl_arrays.specs.TableMachine.{single_keys, range_ends, range_of, cell_within, cell_of, asked_bits, entry_number, entry_of}
-use Rattle.rl_tables.proofs.Elements.{right, has-due, element, if_at, is_at, number-at, number_none, nonneg, pos-≤, pos-<}
+use Rattle.rl_tables.proofs.Elements.{right, has-due, element, if_at, number-at, number_none, nonneg, pos-≤, pos-<}
 use Rattle.rl_tables.proofs.Totals.{total, total-suc, total-<, sum-pos}
 use Rattle.rl_tables.proofs.Asked.{range-within, entry_within}
 

@@ -1,6 +1,6 @@
 -- Laws of sums: how they rise, and where there is none.
-use Rattle.std.proofs.Common.{◌≡◌, ℕ, zero, suc, ◌+◌, ◌-◌, ◌<◌, ◌≤◌, List, length, Option, Some, None, refl, sym, ap, ◌∙◌, inl, inr, arith, add-one}
-use Rattle.std.specs.Prelude.{ℤ, pos, negsuc, ◌+ℤ◌, ◌≤ℤ◌, ◌<ℤ◌, IsSomeAnd, slice_get, slice_index_or, unwrap_or, int_le, true, false}
+use Rattle.std.proofs.Common.{◌≡◌, ℕ, zero, suc, ◌+◌, ◌-◌, ◌<◌, ◌≤◌, List, length, Option, Some, None, refl, sym, inl, inr, arith}
+use Rattle.std.specs.Prelude.{ℤ, pos, negsuc, ◌≤ℤ◌, ◌<ℤ◌, IsSomeAnd, slice_get, slice_index_or, unwrap_or, int_le, true, false}
 use Rattle.std.specs.List.Sorted.{IsPartitionPoint}
 use Rattle.std.proofs.lemmas.Bool.{cases_lt}
 use Rattle.std.proofs.lemmas.Int.{ints}
@@ -8,7 +8,7 @@ use Rattle.std.proofs.lemmas.Option.{slice_get_past, get_or_from_slice_get}
 use Rattle.rl_arrays.specs.declared.arrays.Arrays.{Arrays}
 use Rattle.rl_arrays.specs.Words.{natural, plus, sum_before}
 use Rattle.rl_arrays.specs.Sizes.{entries_of, IsIn}
-use Rattle.rl_arrays.proofs.Laws.{sum-more, no_sum}
+use Rattle.rl_arrays.proofs.Laws.{no_sum}
 
 pub natural_low : (z : ℤ) → z ≤ℤ pos 0 → natural z ≡ 0
 natural_low (pos n) h = omega (arith, ints)

@@ -1,7 +1,7 @@
 -- Sums of widths that are not negative.
 use Rattle.std.proofs.Common.{◌≡◌, ℕ, zero, suc, ◌+◌, ◌-◌, ◌<◌, ◌≤◌, Option, Some, refl, arith}
 use Rattle.std.specs.Prelude.{ℤ, pos}
-use Rattle.rl_arrays.specs.Words.{plus, sum_before}
+use Rattle.rl_arrays.specs.Words.{sum_before}
 
 -- the sum of the first so many
 pub total : (ℕ → ℕ) → ℕ → ℕ

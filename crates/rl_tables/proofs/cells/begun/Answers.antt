@@ -1,5 +1,5 @@
-use Rattle.std.proofs.Common.{rules, of_calls, int_le, arith, ◌≡◌, true, false, pos}
-use Rattle.std.specs.Prelude.{ℤ, ◌≤ℤ◌, ◌<ℤ◌}
+use Rattle.std.proofs.Common.{rules, int_le, pos}
+use Rattle.std.specs.Prelude.{ℤ}
 use Rattle.std.proofs.lemmas.List.Sorted.{IsPartitionPoint-from_clause}
 use Rattle.rl_tables.proofs.SumLaws.{is_le, is_above, le_is}
 use Rattle.rl_tables.proofs.cells.begun.Goals as goal

@@ -1,8 +1,8 @@
-use Rattle.std.proofs.Common.{◌≡◌, ℕ, ◌<◌, ◌≤◌, ◌-◌, arith, take}
+use Rattle.std.proofs.Common.{◌≡◌, ◌<◌, ◌-◌, arith, take}
 use Rattle.rl_arrays.specs.Sizes.{entries_of, cells_end, IsIn}
 use Rattle.rl_tables.specs.Ends.{IsInside}
 use Rattle.rl_tables.proofs.SumLaws.{firsts_rise}
-use Rattle.rl_tables.proofs.EntryLaws.{Places, places_of, entries_before, firsts_len, firsts_are, cell_found}
+use Rattle.rl_tables.proofs.EntryLaws.{places_of, entries_before, firsts_len, firsts_are, cell_found}
 use Rattle.rl_tables.proofs.cells.cell_of_entry.Goals as goal
 
 pub overflow_sub-cells : goal.overflow_sub-cells

@@ -1,4 +1,4 @@
-use Rattle.std.proofs.Common.{◌≡◌, false, refl, sym, rules}
+use Rattle.std.proofs.Common.{false, refl, sym, rules}
 use Rattle.std.proofs.lemmas.Int.{to_z-of_z}
 use Rattle.std.specs.Prelude.{◌↔◌, IsTrue}
 use Rattle.rl_arrays.specs.Rules.{TargetOf}

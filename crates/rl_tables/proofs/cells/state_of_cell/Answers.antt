@@ -1,8 +1,7 @@
-use Rattle.std.proofs.Common.{ℕ, ◌<◌, ◌≤◌, ◌-◌, arith}
-use Rattle.rl_arrays.specs.declared.arrays.Arrays.{Arrays}
+use Rattle.std.proofs.Common.{◌<◌, ◌-◌}
 use Rattle.rl_arrays.specs.Sizes.{states, cells_of, IsIn}
 use Rattle.rl_tables.proofs.SumLaws.{firsts_rise}
-use Rattle.rl_tables.proofs.EntryLaws.{Places, places_of, state_found}
+use Rattle.rl_tables.proofs.EntryLaws.{places_of, state_found}
 use Rattle.rl_tables.proofs.cells.state_of_cell.Goals as goal
 
 pub begun-requires : goal.begun-requires

@@ -1,4 +1,4 @@
-use Rattle.std.proofs.Common.{◌≡◌, arith, pos}
+use Rattle.std.proofs.Common.{arith}
 use Rattle.std.proofs.lemmas.Int.{ints, to_z-of_z}
 use Rattle.rl_tables.proofs.CountLaws.{count_says, says_moves}
 use Rattle.rl_tables.proofs.counts.is_count.Goals as goal

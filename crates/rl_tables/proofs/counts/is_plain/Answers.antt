@@ -1,4 +1,4 @@
-use Rattle.std.proofs.Common.{◌≡◌, false, true, refl, sym, rules}
+use Rattle.std.proofs.Common.{false, refl, sym, rules}
 use Rattle.std.specs.Prelude.{IsTrue}
 use Rattle.rl_tables.proofs.EntryLaws.{places_of, entry_inside}
 use Rattle.rl_tables.proofs.CountLaws.{not_both, is_not}

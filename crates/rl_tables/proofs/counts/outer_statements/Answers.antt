@@ -1,5 +1,5 @@
 use Rattle.std.proofs.Common.{arith}
-use Rattle.rl_tables.proofs.CountLaws.{outer_skip, outer_more, outer_last, outer_none}
+use Rattle.rl_tables.proofs.CountLaws.{outer_none}
 use Rattle.rl_tables.proofs.counts.outer_statements.Goals as goal
 
 pub returns : goal.returns

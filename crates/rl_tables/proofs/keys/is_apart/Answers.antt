@@ -1,4 +1,4 @@
-use Rattle.std.proofs.Common.{◌≡◌, ◌<◌, ◌≤◌, ◌∙◌, sym, arith, ap, pos, length, min, inl, inr, rules}
+use Rattle.std.proofs.Common.{◌∙◌, sym, arith, ap, pos, length, inl, inr, rules}
 use Rattle.std.specs.Prelude.{◌+ℤ◌, ◌<ℤ◌, ◌≤ℤ◌, ◌↔◌, IsTrue, IsSomeAnd, slice_get}
 use Rattle.std.proofs.lemmas.Bool.{cases_lt}
 use Rattle.std.proofs.lemmas.Int.{ints, to_z-of_z}

@@ -1,7 +1,7 @@
-use Rattle.std.proofs.Common.{◌≡◌, ◌<◌, ◌≤◌, ◌∙◌, sym, arith, ap, pos, length, min, inl, inr, rules}
+use Rattle.std.proofs.Common.{arith, ap, pos, length, inl, inr}
 use Rattle.std.specs.Prelude.{◌+ℤ◌, ◌<ℤ◌, ◌≤ℤ◌, slice_get}
 use Rattle.std.proofs.lemmas.Bool.{cases_lt}
-use Rattle.std.proofs.lemmas.Int.{ints, to_z-of_z}
+use Rattle.std.proofs.lemmas.Int.{ints}
 use Rattle.rl_tables.specs.KeyParts.{EndSays}
 use Rattle.rl_tables.proofs.KeyLaws.{if_any, no_end, no_end_says}
 use Rattle.rl_tables.proofs.keys.wrong_end.Goals as goal

@@ -1,6 +1,4 @@
-use Rattle.std.proofs.Common.{◌≡◌, ◌∙◌, arith, rules, sym, Some, None}
-use Rattle.std.specs.Prelude.{slice_get}
-use Rattle.rl_tables.proofs.KeyLaws.{if_any, none_first, none_singles, state_wrong, single_alone}
+use Rattle.rl_tables.proofs.KeyLaws.{state_wrong}
 use Rattle.rl_tables.proofs.keys.wrong_in_state.Goals as goal
 
 pub returns-in-Some : goal.returns-in-Some

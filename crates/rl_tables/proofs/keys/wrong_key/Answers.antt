@@ -1,4 +1,4 @@
-use Rattle.std.proofs.Common.{rules, arith}
+use Rattle.std.proofs.Common.{rules}
 use Rattle.rl_arrays.specs.Sizes.{keys_of}
 use Rattle.rl_arrays.proofs.Laws.{sum-more, no_sum}
 use Rattle.rl_tables.proofs.KeyLaws.{no_states, states_wrong}
