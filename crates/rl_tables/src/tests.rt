@@ -124,13 +124,42 @@ fn is_refused(arrays: Arrays, array: ArrayName, index: u64) -> bool {
     }
 }
 
+/// The arrays with another list in the place of the one of this name.
+fn changed(mut arrays: Arrays, array: ArrayName, list: List<i64>) -> Arrays {
+    match array {
+        ArrayName::Actions => arrays.actions = list,
+        ArrayName::TransKeys => arrays.trans_keys = list,
+        ArrayName::CellAsks => arrays.cell_asks = list,
+        ArrayName::TransTargs => arrays.trans_targs = list,
+        ArrayName::TransLists => arrays.trans_lists = list,
+        ArrayName::FromLists => arrays.from_lists = list,
+        _ => {}
+    }
+    arrays
+}
+
+/// Whether the machine with this list is refused for that element of it.
+fn is_wrong(alloc: Global, array: ArrayName, list: &[i64], index: u64) -> Result<bool, AllocError> {
+    let list = numbers(alloc, list)?;
+    let arrays = one(alloc)?;
+    Ok(is_refused(changed(arrays, array, list), array, index))
+}
+
 #[test]
 fn names_the_first_wrong_element(rt: HostRuntime) -> Result<(), AllocError> {
     let alloc = rt.alloc();
-    let mut arrays = one(alloc)?;
-    arrays.actions = numbers(alloc, &[0, 1, 2])?;
-    assert!(rt; is_refused(arrays, ArrayName::Actions, 2));
-    let mut arrays = one(alloc)?;
+    assert!(rt; is_wrong(alloc, ArrayName::Actions, &[0, 1, 2], 2)?);
+    assert!(rt; is_wrong(alloc, ArrayName::TransKeys, &[97, 200, 0], 1)?);
+    assert!(rt; is_wrong(alloc, ArrayName::CellAsks, &[1, 0, 0], 0)?);
+    assert!(rt; is_wrong(alloc, ArrayName::TransTargs, &[2, 4, 0], 1)?);
+    assert!(rt; is_wrong(alloc, ArrayName::TransLists, &[1, 2, 0], 1)?);
+    assert!(rt; is_wrong(alloc, ArrayName::FromLists, &[0, 0, 0], 3)?);
+    Ok(())
+}
+
+#[test]
+fn names_what_is_wrong_before_the_arrays(rt: HostRuntime) -> Result<(), AllocError> {
+    let mut arrays = one(rt.alloc())?;
     arrays.first_final = 5;
     assert!(rt; is_refused(arrays, ArrayName::EntryStates, 0));
     Ok(())
