@@ -1,4 +1,4 @@
-mod Rows
+pub mod Rows
 pub mod Projection
 pub mod Grows
 pub mod Whole

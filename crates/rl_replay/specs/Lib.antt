@@ -4,4 +4,5 @@ pub mod Host
 pub mod OwnPicks
 pub mod Lines
 pub mod Written
+pub mod ScriptRows
 pub mod FirstForm

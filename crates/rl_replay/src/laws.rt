@@ -7,6 +7,7 @@ ghost use Rattle.rl_replay.specs.declared.script.Line.{Line};
 ghost use Rattle.rl_replay.specs.Sessions.{Names, only, entry_or_start, first_fault};
 ghost use Rattle.rl_replay.specs.Host.{host};
 ghost use Rattle.rl_replay.specs.Lines.{run_lines};
+ghost use Rattle.rl_replay.specs.ScriptRows.{AreThreeLines, IsNoLine, IsNotOpen, IsOpenedTwice, IsNoEntry, EachCallHasItsLine, StopsForGood, LeftAreTold, SessionsTakeTurns, SecondCallIsPicked, NoSuchStatement};
 ghost use Rattle.rl_replay.specs.Written.{texts_of, session_lines, parts_from, parts, written, whole_input};
 
 /// What is written for a session is what the lines that name it write by themselves: no other session's pieces, ends
@@ -37,4 +38,20 @@ pub fn whole_inputs_are_one_run()
 pub fn twins_write_the_same()
     ensures { (m w : Machine ℕ) (rename : ℕ → ℕ) (stands : ℕ → ℕ → Bool) → IsTwin m w rename (λ q p. IsTrue (stands q p)) →
         (names : Names) (settings : Settings) (script : List Line) → written names w settings script ≡ written names m settings script }
+{}
+
+/// Some scripts, of one session and of two: how they read, their faults, and what a replay of a small machine writes for
+/// them.
+pub fn scripts_write_lines()
+    ensures three_lines { AreThreeLines }
+    ensures no_line { IsNoLine }
+    ensures not_open { IsNotOpen }
+    ensures twice { IsOpenedTwice }
+    ensures no_entry { IsNoEntry }
+    ensures calls { EachCallHasItsLine }
+    ensures stop { StopsForGood }
+    ensures left { LeftAreTold }
+    ensures turns { SessionsTakeTurns }
+    ensures picks { SecondCallIsPicked }
+    ensures stray { NoSuchStatement }
 {}

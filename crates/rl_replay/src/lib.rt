@@ -11,7 +11,10 @@ mod script;
 
 pub use first_form::read_first_form;
 pub use host::answer_by_itself;
-pub use laws::{pieces_add_up, sessions_are_apart, twins_write_the_same, whole_inputs_are_one_run};
+pub use laws::{
+    pieces_add_up, scripts_write_lines, sessions_are_apart, twins_write_the_same,
+    whole_inputs_are_one_run,
+};
 pub use lines::{push_call_line, push_end_line, push_left_line, push_stop_line};
 pub use look_ups::LookUps;
 pub use script::{Event, Line, Script, ScriptFault};
