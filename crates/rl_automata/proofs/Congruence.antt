@@ -10,13 +10,13 @@ use Rattle.rl_labels.specs.Carries.{no_carry, both_of}
 use Rattle.rl_automata.specs.declared.moves.Move.{Move}
 use Rattle.rl_automata.specs.Auto.{Auto, carries, targets, kept, settle, step_to, on_part, first, listed, steps_of, carrying, both_auto, cat_auto, left_final, next, ends_at_once, chain_final, asked_of}
 use Rattle.rl_automata.specs.Follows.{Reach, begun, went, renamed, Follows}
-use Rattle.rl_sets.proofs.SetLaws.{Same, In-map, In-map_from, In-filter_from, In-append_cases, In-flat_map, In-flat_map_from, In-set_of_from, same_refl, same_sym, same_trans, same_append, same_map, same_set_of, Ascends-set_of, ascending_same, set_of-same}
+use Rattle.rl_sets.proofs.SetLaws.{Same, In-map, In-map_from, In-filter_from, In-append_cases, In-flat_map, In-flat_map_from, In-set_of_from, same_refl, same_sym, same_trans, same_append, same_map, same_set_of, Ascends-set_of, ascending_same, set_of-same, any-same}
 use Rattle.std.specs.Int.Bits.{or_self}
 use Rattle.std.proofs.lemmas.Nat.{or_comm}
 use Rattle.std.proofs.lemmas.Nat.Bits.{same_from_bits, bit_at_or}
 use Rattle.std.specs.Int.{bit_at}
 use Rattle.rl_labels.proofs.LabelOrders.{stamp_order}
-use Rattle.rl_automata.proofs.Settle.{settle-same, settle-renamed, all_of-same, any-same}
+use Rattle.rl_automata.proofs.Settle.{settle-same, settle-renamed, all_of-same}
 
 abbrev pub AllIn : {K : Type 0} → (K → Type 0) → List K → Type 0
 AllIn P xs = (x : _) → In x xs → P x

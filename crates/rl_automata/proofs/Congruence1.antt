@@ -15,10 +15,10 @@ use Rattle.rl_labels.specs.Carries.{no_carry, both_of}
 use Rattle.rl_automata.specs.declared.moves.Move.{Move}
 use Rattle.rl_automata.specs.Auto.{Auto, listed, carrying, restamped, star_auto, is_start, round_step, member_steps, only_start, enter_auto, finish_auto, every_auto, leave_auto, mark_auto, in_class, same_kind, steps_at, quiet, pruned, when_auto, guarded_step, live_step, only_live, every_truths, holds}
 use Rattle.rl_automata.specs.Follows.{Reach, begun, went, renamed, Follows}
-use Rattle.rl_sets.proofs.SetLaws.{Same, In-map_from, In-append_cases, In-flat_map_from, In-set_of_from, same_refl, same_sym, same_trans, same_map, same_set_of, Ascends-set_of, ascending_same, set_of-same}
+use Rattle.rl_sets.proofs.SetLaws.{Same, In-map_from, In-append_cases, In-flat_map_from, In-set_of_from, same_refl, same_sym, same_trans, same_map, same_set_of, Ascends-set_of, ascending_same, set_of-same, both_ways, any-same}
 use Rattle.rl_labels.proofs.LabelOrders.{stamp_order}
 use Rattle.rl_sets.proofs.OrderLaws.{list_is_order, eq_by_cmp-itself, eq_by_cmp-same}
-use Rattle.rl_automata.proofs.Settle.{settle-same, both_ways, all_of-same, any-same}
+use Rattle.rl_automata.proofs.Settle.{settle-same, all_of-same}
 pub use Rattle.rl_automata.proofs.Leads.{reach_in}
 use Rattle.rl_automata.proofs.Leads.{every_leads, finish_leads, enter_leads, guard_leads, live_leads}
 use Rattle.rl_automata.proofs.Congruence.{AllIn, reach_all, steps_reach, settle_to, listed_step, any_renamed, map_renamed, asked_renamed, asked_of-same, map_apart, same_flat_map}

@@ -5,7 +5,7 @@ use Rattle.rl_automata.specs.declared.moves.Move.{Move}
 use Rattle.rl_automata.specs.Auto.{Auto, quiet, pruned, steps_at, every_truths, only_live, live_step}
 use Rattle.rl_automata.specs.Follows.{Reach, Follows, went, renamed}
 use Rattle.rl_automata.specs.Nodes.{Ends, TellsLive}
-use Rattle.rl_automata.proofs.Settle.{both_ways, any_true, any_from}
+use Rattle.rl_sets.proofs.SetLaws.{both_ways, any_true, any_from}
 use Rattle.rl_automata.proofs.Congruence.{some_in, none_in}
 use Rattle.rl_automata.proofs.Congruence1.{reach_in}
 

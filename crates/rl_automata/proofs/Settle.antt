@@ -1,52 +1,17 @@
 -- Candidates that are renamed, or listed in another order, settle alike.
-use Rattle.std.proofs.Common.{◌≡◌, Bool, true, false, cond, not, ◌||◌, ◌&&◌, List, [], ◌∷◌, ◌++◌, map, refl, sym, ◌∙◌, ap, subst, inl, inr, Some, option_map, true≢false}
+use Rattle.std.proofs.Common.{◌≡◌, true, false, cond, not, ◌&&◌, List, [], ◌∷◌, ◌++◌, map, refl, sym, ◌∙◌, ap, subst, inl, Some, option_map}
 use Rattle.std.specs.List.{filter, list_any}
-use Rattle.rl_labels.specs.declared.priors.Prior.{Prior}
-use Rattle.rl_sets.specs.Sets.{In}
 use Rattle.rl_labels.specs.declared.carry.Carry.{Carry}
-use Rattle.rl_labels.specs.Labels.{table_of, outranks, beats}
+use Rattle.rl_labels.specs.Labels.{beats}
 use Rattle.rl_labels.specs.Carries.{all_of}
 use Rattle.rl_automata.specs.declared.moves.Move.{Move}
 use Rattle.rl_automata.specs.Auto.{carries, targets, kept, settle, step_to, jams, is_none_left}
 use Rattle.rl_automata.specs.Follows.{renamed}
-use Rattle.rl_sets.proofs.SetLaws.{Same, In-filter, In-filter_from, same_refl, same_append, same_map, same_joined, set_of-same}
-use Rattle.rl_labels.proofs.LabelOrders.{stamp_order, prior_order}
-
--- ---- tests of some element
-
-pub any_true : {K : Type 0} (p : K → Bool) (x : K) (xs : List K) → In x xs → p x ≡ true → list_any p xs ≡ true
-any_true p x (z ∷ xs) (inl e) h = ap (λ b. b || list_any p xs) (ap p e ∙ h)
-any_true p x (z ∷ xs) (inr i) h = ap (λ b. p z || b) (any_true p x xs i h) ∙ elim (p z) as (λ b. (b || true) ≡ true) [ true ↦ refl | false ↦ refl ]
-any_true p x [] i h = absurd i
-
-pub any_from : {K : Type 0} (p : K → Bool) (xs : List K) → list_any p xs ≡ true → (x : K) × In x xs × (p x ≡ true)
-any_from p [] h = absurd (true≢false (sym h))
-any_from p (z ∷ xs) h =
-    (elim (p z) as (λ b. p z ≡ b → (b || list_any p xs) ≡ true → (x : _) × In x (z ∷ xs) × (p x ≡ true)) [
-      | true ↦ λ e g. (z, inl refl, e)
-      | false ↦ λ e g. let r = any_from p xs g in (r.0, inr r.1, r.2)
-    ]) refl h
-
-pub both_ways : (a b : Bool) → (a ≡ true → b ≡ true) → (b ≡ true → a ≡ true) → a ≡ b
-both_ways true b f g = sym (f refl)
-both_ways false true f g = g refl
-both_ways false false f g = refl
-
-pub any-same : {K : Type 0} (p : K → Bool) (xs ys : List K) → Same xs ys → list_any p xs ≡ list_any p ys
-any-same p xs ys s = both_ways _ _
-    (λ h. let r = any_from p xs h in any_true p r.0 ys (s.to r.0 r.1) r.2)
-    (λ h. let r = any_from p ys h in any_true p r.0 xs (s.back r.0 r.1) r.2)
-
-pub same_filter : {K : Type 0} (p : K → Bool) (xs ys : List K) → Same xs ys → Same (filter p xs) (filter p ys)
-same_filter p xs ys s = record {
-  to = λ x h. let r = In-filter_from p x xs h in In-filter p x ys (s.to x r.0) r.1;
-  back = λ x h. let r = In-filter_from p x ys h in In-filter p x xs (s.back x r.0) r.1;
-}
+use Rattle.rl_sets.proofs.SetLaws.{Same, any-same, same_filter, same_refl, same_append, same_map, same_joined, set_of-same}
+use Rattle.rl_labels.proofs.LabelOrders.{stamp_order}
+use Rattle.rl_labels.proofs.TableLaws.{table_of-same}
 
 -- ---- what is carried
-
-pub table_of-same : (ps qs : List Prior) → Same ps qs → table_of ps ≡ table_of qs
-table_of-same ps qs s = λ i. filter (λ p. not (any-same (outranks p) ps qs s i)) (set_of-same prior_order ps qs s i)
 
 pub all_of-same : (cs ds : List Carry) → Same cs ds → all_of cs ≡ all_of ds
 all_of-same cs ds s = λ i. record {

@@ -10,7 +10,7 @@ use Rattle.rl_automata.specs.declared.moves.Move.{Move}
 use Rattle.rl_automata.specs.Auto.{Auto}
 use Rattle.rl_automata.specs.Follows.{Reach, renamed, Follows}
 use Rattle.rl_automata.specs.Nodes.{Ends, TellsLive}
-use Rattle.rl_automata.proofs.Settle.{both_ways, any_true, any_from}
+use Rattle.rl_sets.proofs.SetLaws.{both_ways, any_true, any_from}
 use Rattle.rl_automata.proofs.Congruence.{named_reach, none_in}
 use Rattle.rl_automata.proofs.PruneLaws.{ends_along, ends_back}
 use Rattle.rl_automata.specs.Scans.{TellsClosed}

@@ -5,7 +5,7 @@ use Rattle.rl_automata.specs.Auto.{Auto}
 use Rattle.rl_automata.specs.Follows.{Reach, renamed, Follows}
 use Rattle.rl_automata.specs.Nodes.{Nothing}
 use Rattle.rl_automata.specs.Scans.{Root, Plain, Scanner, scan_raw, TellsClosed}
-use Rattle.rl_automata.proofs.Settle.{both_ways}
+use Rattle.rl_sets.proofs.SetLaws.{both_ways}
 use Rattle.rl_automata.proofs.Congruence.{none_in, reach_along}
 use Rattle.rl_automata.proofs.Congruence1.{start_same}
 use Rattle.rl_automata.proofs.MarksLaws.{scan_order}

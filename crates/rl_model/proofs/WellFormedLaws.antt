@@ -10,14 +10,13 @@ use Rattle.rl_types.specs.declared.numbers.Key.{Key}
 use Rattle.rl_types.specs.Alphabet.{has_key, least_key, greatest_key}
 use Rattle.rl_types.specs.KeyRange.{Range, in_range}
 use Rattle.rl_sets.specs.Sets.{In}
-use Rattle.rl_sets.proofs.SetLaws.{In-append_left, In-append_right, In-flat_map, In-flat_map_from}
+use Rattle.rl_sets.proofs.SetLaws.{any_from, In-append_left, In-append_right, In-flat_map, In-flat_map_from}
 use Rattle.rl_run.specs.declared.statements.Statement.{Statement}
 use Rattle.rl_run.specs.Machine.{Go, Machine}
 use Rattle.rl_automata.specs.declared.moves.Move.{Move}
 use Rattle.rl_automata.specs.Nodes.{Node, Nothing}
 use Rattle.rl_automata.specs.Scans.{Pattern, Root, Plain, Scanner}
 use Rattle.rl_automata.specs.Refused.{sets_in, conditions_in, pattern_sets, pattern_conditions}
-use Rattle.rl_automata.proofs.Settle.{any_from}
 use Rattle.rl_automata.proofs.Congruence.{none_in}
 use Rattle.rl_model.specs.declared.spec.Spec.{Spec}
 use Rattle.rl_model.specs.Specification.{Action, Specification, specification_of, action_of, roots_of, numbered, statement_at}
