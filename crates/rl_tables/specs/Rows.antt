@@ -56,6 +56,10 @@ NoSuchKey = IsWrongAt (record one { trans_keys = pos 97 ∷ pos 200 ∷ pos 0 �
 abbrev pub NoSuchCondition : Type 0
 NoSuchCondition = IsWrongAt (record one { cell_asks = pos 1 ∷ pos 0 ∷ pos 0 ∷ [] }) the.CellAsks 0
 
+-- there is no state 4
+abbrev pub NoSuchState : Type 0
+NoSuchState = IsWrongAt (record one { trans_targs = pos 2 ∷ pos 4 ∷ pos 0 ∷ [] }) the.TransTargs 1
+
 -- at place 2 no list begins
 abbrev pub NoListBegins : Type 0
 NoListBegins = IsWrongAt (record one { trans_lists = pos 1 ∷ pos 2 ∷ pos 0 ∷ [] }) the.TransLists 1

@@ -1,13 +1,15 @@
 // What the check says of the arrays of a small machine. The function does nothing: its contract is what is proved.
-ghost use Rattle.rl_tables.specs.Rows.{OneIsValid, NoSuchKey, NoSuchCondition, NoListBegins, TooFewLists, NoSuchAction, FinalBehindAll};
+ghost use Rattle.rl_tables.specs.Rows.{OneIsValid, NoSuchKey, NoSuchCondition, NoSuchState, NoListBegins, TooFewLists, NoSuchAction, FinalBehindAll};
 
-/// The arrays of `main := 'ab' $x;` are valid. Of six changes of them each is wrong first where it was made: a key that
-/// the alphabet lacks, a condition that does not exist, a number where no list begins, an array that is too short, an
-/// action that does not exist, and a least final state behind all states (this profile).
+/// The arrays of `main := 'ab' $x;` are valid. Of seven changes of them each is wrong first where it was made: a key that
+/// the alphabet lacks, a condition or a state that does not exist, a number where no list begins, an array that is too
+/// short, an action that does not exist; and a least final state behind all states, which is told at the entries' states
+/// (this profile).
 pub fn arrays_are_checked()
     ensures valid { OneIsValid }
     ensures key { NoSuchKey }
     ensures condition { NoSuchCondition }
+    ensures state { NoSuchState }
     ensures list { NoListBegins }
     ensures short { TooFewLists }
     ensures action { NoSuchAction }

@@ -1,4 +1,4 @@
-use Rattle.rl_tables.proofs.SmallArrays.{one_is_valid, no_such_key, no_such_condition, no_list_begins, too_few_lists, no_such_action, final_behind_all}
+use Rattle.rl_tables.proofs.SmallArrays.{one_is_valid, no_such_key, no_such_condition, no_such_state, no_list_begins, too_few_lists, no_such_action, final_behind_all}
 use Rattle.rl_tables.proofs.rows.arrays_are_checked.Goals as goal
 
 pub returns-clause-valid : goal.returns-clause-valid
@@ -9,6 +9,9 @@ returns-clause-key c = no_such_key
 
 pub returns-clause-condition : goal.returns-clause-condition
 returns-clause-condition c = no_such_condition
+
+pub returns-clause-state : goal.returns-clause-state
+returns-clause-state c = no_such_state
 
 pub returns-clause-list : goal.returns-clause-list
 returns-clause-list c = no_list_begins
