@@ -1,0 +1,5 @@
+%%{
+  machine one;
+  action x { }
+  main := 'ab' $x;
+}%%

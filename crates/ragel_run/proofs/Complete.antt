@@ -1,0 +1,132 @@
+-- A replay that meets no fault ends as it is to end.
+use Rattle.std.proofs.Common.{◌≡◌, ◌∙◌, ◌⊎◌, inl, inr, ℕ, zero, suc, ◌+◌, ◌≤◌, List, [], ◌∷◌, take, Option, Some, None, Result, Ok, Err, IsSome, refl, sym, ap, subst, arith}
+use Rattle.rl_io.specs.Outside.{Held, Reads, Lacks}
+use Rattle.rl_types.specs.declared.status.Status.{Status}
+use Rattle.rl_reading.specs.Reading as reading
+use Rattle.rl_replay.specs.FirstForm.{Begins, IsFirstBad, IsFirstForm}
+use Rattle.rl_replay.specs.Script.{lines_of}
+use Rattle.ragel_run.specs.declared.refusal.Refusal.{Refusal}
+use Rattle.ragel_run.specs.declared.refusal.Refusal.TheVariants as refusals
+use Rattle.ragel_run.specs.Replay.{Outside, Ends, Due, DueBySpec, DueByScript, HasNoFault, HasCause, IsComplete, EndsWith, Tells, status_of, line_of}
+
+-- what is told is read in one way, and is not lacking
+reads_once : (held : Held) (name t u : List ℕ) → IsSome held → Reads held name t → Reads held name u → t ≡ u
+reads_once (Some held) name t u told p q = some_same (sym p ∙ q)
+  where
+    some_same : Some t ≡ Some u → t ≡ u
+    some_same e = cc
+reads_once None name t u told p q = absurd (cc told)
+
+lacks_not : (held : Held) (name t : List ℕ) → IsSome held → Lacks held name → Reads held name t → ⊥
+lacks_not (Some held) name t told p q = none_some (sym p ∙ q)
+  where
+    none_some : None ≡ Some t → ⊥
+    none_some e = cc
+lacks_not None name t told p q = absurd (cc told)
+
+-- fewer lines begin as well
+begins_less : (m n : ℕ) (lines : List (List ℕ)) → m ≤ n → Begins n lines → Begins m lines
+begins_less m n lines less b = (b.0, b.1, b.2, b.3, sym (take_take m n lines less) ∙ ap (take m) b.4 ∙ take_take m n _ less)
+  where
+    take_take : (m n : ℕ) (xs : List (List ℕ)) → m ≤ n → take m (take n xs) ≡ take m xs
+    take_take zero n xs less = refl
+    take_take (suc m) zero xs less = absurd (omega arith)
+    take_take (suc m) (suc n) [] less = refl
+    take_take (suc m) (suc n) (x ∷ xs) less = ap (λ ys. x ∷ ys) (take_take m n xs (omega arith))
+
+-- there is one first bad line, and none where the lines have the form
+bad_once : (lines : List (List ℕ)) (m n : ℕ) → IsFirstBad lines m → IsFirstBad lines n → m ≡ n
+bad_once lines m n a b = elim (order a.0 b.0) [
+  | inl less ↦ absurd (a.3 (begins_less (a.0 + 1) b.0 lines less b.2))
+  | inr (inl more) ↦ absurd (b.3 (begins_less (b.0 + 1) a.0 lines more a.2))
+  | inr (inr same) ↦ a.1 ∙ ap (λ k. k + 1) same ∙ sym b.1
+]
+  where
+    order : (j k : ℕ) → (j + 1 ≤ k) ⊎ (k + 1 ≤ j) ⊎ (j ≡ k)
+    order j k = grind arith
+
+form_not_bad : (lines : List (List ℕ)) (s bytes : List ℕ) (n : ℕ) → IsFirstForm lines s bytes → IsFirstBad lines n → ⊥
+form_not_bad lines s bytes n f b = b.3 (s, bytes, f.session, f.plain, ap (take (b.0 + 1)) f.lines_are)
+
+module _ (held : Held) (told : IsSome held) where
+  script_once : (script : List ℕ) (e f : Result (Unit {0}) Refusal) → DueByScript held script e → DueByScript held script f → e ≡ f
+  script_once script e f (inl a) (inl b) = a.1 ∙ sym b.1
+  script_once script e f (inl a) (inr (inl b)) = absurd (lacks_not held script b.0 told a.0 b.2)
+  script_once script e f (inl a) (inr (inr b)) = absurd (lacks_not held script b.2.text told a.0 b.2.reads)
+  script_once script e f (inr (inl a)) (inl b) = absurd (lacks_not held script a.0 told b.0 a.2)
+  script_once script e f (inr (inl a)) (inr (inl b)) =
+      let bad = subst (λ t. IsFirstBad (lines_of t) b.1) (reads_once held script b.0 a.0 told b.2 a.2) b.3 in
+      a.4 ∙ ap (λ n. Err (refusals.BadLine n)) (bad_once (lines_of a.0) a.1 b.1 a.3 bad) ∙ sym b.4
+  script_once script e f (inr (inl a)) (inr (inr b)) =
+      let form = subst (λ t. IsFirstForm (lines_of t) b.0 b.1) (reads_once held script b.2.text a.0 told b.2.reads a.2) b.2.form in
+      absurd (form_not_bad (lines_of a.0) b.0 b.1 a.1 form a.3)
+  script_once script e f (inr (inr a)) (inl b) = absurd (lacks_not held script a.2.text told b.0 a.2.reads)
+  script_once script e f (inr (inr a)) (inr (inl b)) =
+      let form = subst (λ t. IsFirstForm (lines_of t) a.0 a.1) (reads_once held script a.2.text b.0 told a.2.reads b.2) a.2.form in
+      absurd (form_not_bad (lines_of b.0) a.0 a.1 b.1 form b.3)
+  script_once script e f (inr (inr a)) (inr (inr b)) = a.3 ∙ sym b.3
+
+  spec_once : (spec script : List ℕ) (e f : Result (Unit {0}) Refusal) → DueBySpec held spec script e → DueBySpec held spec script f → e ≡ f
+  spec_once spec script e f (inl a) (inl b) = a.1 ∙ sym b.1
+  spec_once spec script e f (inl a) (inr (inl b)) = absurd (lacks_not held spec b.0 told a.0 b.1)
+  spec_once spec script e f (inl a) (inr (inr b)) = absurd (lacks_not held spec b.1.text told a.0 b.1.reads)
+  spec_once spec script e f (inr (inl a)) (inl b) = absurd (lacks_not held spec a.0 told b.0 a.1)
+  spec_once spec script e f (inr (inl a)) (inr (inl b)) = a.3 ∙ sym b.3
+  spec_once spec script e f (inr (inl a)) (inr (inr b)) =
+      absurd (a.2 b.0 (subst (λ t. reading.Reads t b.0) (reads_once held spec b.1.text a.0 told b.1.reads a.1) b.1.means))
+  spec_once spec script e f (inr (inr a)) (inl b) = absurd (lacks_not held spec a.1.text told b.0 a.1.reads)
+  spec_once spec script e f (inr (inr a)) (inr (inl b)) =
+      absurd (b.2 a.0 (subst (λ t. reading.Reads t a.0) (reads_once held spec a.1.text b.0 told a.1.reads b.1) a.1.means))
+  spec_once spec script e f (inr (inr a)) (inr (inr b)) = script_once script e f a.2 b.2
+
+  due_once : (words : List (List ℕ)) (e f : Result (Unit {0}) Refusal) → Due held words e → Due held words f → e ≡ f
+  due_once words e f (inl a) (inl b) = a.1 ∙ sym b.1
+  due_once words e f (inl a) (inr b) = absurd (a.0 b.0 b.1 b.2)
+  due_once words e f (inr a) (inl b) = absurd (b.0 a.0 a.1 a.2)
+  due_once words e f (inr a) (inr b) =
+      let same : a.0 ∷ a.1 ∷ [] ≡ b.0 ∷ b.1 ∷ [] = sym a.2.0 ∙ b.2.0 in
+      let spec : b.0 ≡ a.0 = head_same b.0 a.0 _ _ (sym same) in
+      let script : b.1 ≡ a.1 = second_same b.0 a.0 b.1 a.1 (sym same) in
+      spec_once a.0 a.1 e f a.3 (subst (λ x. DueBySpec held x a.1 f) spec (subst (λ x. DueBySpec held b.0 x f) script b.3))
+    where
+      head_same : (x y : List ℕ) (xs ys : List (List ℕ)) → x ∷ xs ≡ y ∷ ys → x ≡ y
+      head_same x y xs ys e = cc
+
+      second_same : (x y v w : List ℕ) → x ∷ v ∷ [] ≡ y ∷ w ∷ [] → v ≡ w
+      second_same x y v w e = cc
+
+-- what ended without a fault is as it is to be
+ends_due : (o : Outside) (words : List (List ℕ)) (e : Result (Unit {0}) Refusal) → HasNoFault o → Ends o words e → Due o.held words e ⊎ (e ≡ Err refusals.Memory)
+ends_due o words (Ok tt) n p = let d = p.0 in inl (inr (d.0, d.1, d.2, inr (inr (d.3, d.4, inr (inr (d.5, d.6, d.7, refl))))))
+ends_due o words (Err refusals.Usage) n p = inl (inl (p.0.0, refl))
+ends_due o words (Err refusals.NoSpec) n p = let c = p.0 in inl (inr (c.0, c.1, c.2, inl (c.3, refl)))
+ends_due o words (Err refusals.SpecFailed) n p = absurd (n.store p.0.3)
+ends_due o words (Err refusals.NotYet) n p = let c = p.0 in inl (inr (c.0, c.1, c.2, inr (inl (c.3, c.4, c.5, refl))))
+ends_due o words (Err refusals.NoScript) n p = let c = p.0 in inl (inr (c.0, c.1, c.2, inr (inr (c.3, c.4, inl (c.5, refl)))))
+ends_due o words (Err refusals.ScriptFailed) n p = absurd (n.store p.0.5)
+ends_due o words (Err (refusals.BadLine line)) n p = let c = p.0 in inl (inr (c.0, c.1, c.2, inr (inr (c.3, c.4, inr (inl (c.5, line, c.6, c.7, refl))))))
+ends_due o words (Err refusals.OutputFailed) n p = absurd (n.output p.1)
+ends_due o words (Err refusals.Memory) n p = inr refl
+
+pub complete : (o : Outside) (words : List (List ℕ)) (old new : Option (List ℕ)) (before now : ℕ) (status : Status) → EndsWith o words old new before now status → IsComplete o words old new before now status
+complete o words old new before now status w n end due = elim (ends_due o words w.0 n w.1) [
+  | inl found ↦ let same = due_once o.held n.told words w.0 end found due in
+      inl (w.2 ∙ ap (λ e. status_of e) same, subst (λ e. Tells old new before now (line_of words e)) same w.3)
+  | inr memory ↦ inr (w.2 ∙ ap (λ e. status_of e) memory)
+]
+
+-- an end has its cause
+ends_cause : (o : Outside) (words : List (List ℕ)) (e : Result (Unit {0}) Refusal) → Ends o words e → HasCause o words (status_of e)
+ends_cause o words (Ok tt) p = p
+ends_cause o words (Err refusals.Usage) p = p.0.0
+ends_cause o words (Err refusals.NoSpec) p = let c = p.0 in inr (inr (c.0, c.1, c.2, inl c.3))
+ends_cause o words (Err refusals.SpecFailed) p = inl p.0.3
+ends_cause o words (Err refusals.NotYet) p = let c = p.0 in (c.0, c.1, c.2, c.3, c.4, c.5)
+ends_cause o words (Err refusals.NoScript) p = let c = p.0 in inr (inr (c.0, c.1, c.2, inr c.5))
+ends_cause o words (Err refusals.ScriptFailed) p = inl p.0.5
+ends_cause o words (Err (refusals.BadLine line)) p = let c = p.0 in (c.0, c.1, c.2, c.5, c.6, line, c.7)
+ends_cause o words (Err refusals.OutputFailed) p = inr (inl p.1)
+ends_cause o words (Err refusals.Memory) p = tt
+
+pub cause : (o : Outside) (words : List (List ℕ)) (old new : Option (List ℕ)) (before now : ℕ) (status : Status) → EndsWith o words old new before now status → HasCause o words status
+cause o words old new before now status w = subst (HasCause o words) (sym w.2) (ends_cause o words w.0 w.1)

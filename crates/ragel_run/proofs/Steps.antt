@@ -1,0 +1,87 @@
+-- How the steps of a replay put together say how it ends.
+use Rattle.std.proofs.Common.{◌≡◌, ℕ, List, Option, None, Result, Ok, Err, subst}
+use Rattle.rl_io.specs.Outside.{Held, Appends, AppendsPrefix}
+use Rattle.rl_model.specs.Trees.{TestsOf}
+use Rattle.rl_reading.specs.declared.source.Source.{Source}
+use Rattle.rl_reading.specs.Rewriting.{specification_of_source}
+use Rattle.rl_replay.specs.declared.script.Line.{Line}
+use Rattle.rl_replay.specs.Written.{whole_input}
+use Rattle.ragel_run.specs.declared.refusal.Refusal.{Refusal}
+use Rattle.ragel_run.specs.declared.refusal.Refusal.TheVariants as refusals
+use Rattle.ragel_run.specs.Replay.{AreWords, Outside, HasSource, HasScript, prescribed, Replays, IsRefused, Ends, Refuses, ReadsSpec, ReadsScript, WritesLines}
+
+-- a source that is not read
+pub spec_refused : (held : Held) (words : List (List ℕ)) (spec script : List ℕ) (before now : ℕ) (e : Refusal) →
+    AreWords words spec script → ReadsSpec held spec before now (Err e) → Refuses held words before now e
+spec_refused held words spec script before now refusals.Usage w p = absurd p
+spec_refused held words spec script before now refusals.NoSpec w p = (spec, script, w, p.0, p.1)
+spec_refused held words spec script before now refusals.NoScript w p = absurd p
+spec_refused held words spec script before now refusals.SpecFailed w p = (spec, script, w, p)
+spec_refused held words spec script before now refusals.ScriptFailed w p = absurd p
+spec_refused held words spec script before now refusals.NotYet w p = (spec, script, w, p.0, p.1, p.2, p.3)
+spec_refused held words spec script before now (refusals.BadLine line) w p = absurd p
+spec_refused held words spec script before now refusals.OutputFailed w p = absurd p
+spec_refused held words spec script before now refusals.Memory w p = p
+
+-- a script that is not read
+pub script_refused : (held : Held) (words : List (List ℕ)) (spec script : List ℕ) (source : Source) (before now : ℕ) (e : Refusal) →
+    AreWords words spec script → HasSource held spec source → ReadsScript held script before now (Err e) → Refuses held words before now e
+script_refused held words spec script source before now refusals.Usage w h p = absurd p
+script_refused held words spec script source before now refusals.NoSpec w h p = absurd p
+script_refused held words spec script source before now refusals.NoScript w h p = (spec, script, w, source, h, p.0, p.1)
+script_refused held words spec script source before now refusals.SpecFailed w h p = absurd p
+script_refused held words spec script source before now refusals.ScriptFailed w h p = (spec, script, w, source, h, p)
+script_refused held words spec script source before now refusals.NotYet w h p = absurd p
+script_refused held words spec script source before now (refusals.BadLine line) w h p = (spec, script, w, source, h, p.0, p.1, p.2, p.3)
+script_refused held words spec script source before now refusals.OutputFailed w h p = absurd p
+script_refused held words spec script source before now refusals.Memory w h p = p
+
+-- the same by what stood before the source was read
+pub script_refused_from : (held mid_held : Held) (words : List (List ℕ)) (spec script : List ℕ) (source : Source) (before mid now : ℕ) (e : Refusal) → mid_held ≡ held → mid ≡ before →
+    AreWords words spec script → HasSource held spec source → ReadsScript mid_held script mid now (Err e) → Refuses held words before now e
+script_refused_from held mid_held words spec script source before mid now e same_held same w h p =
+    script_refused held words spec script source before now e w h
+    (subst (λ n. ReadsScript held script n now (Err e)) same (subst (λ x. ReadsScript x script mid now (Err e)) same_held p))
+
+-- a source and a script that are read, and their lines
+pub lines_due : (held mid_held : Held) (words : List (List ℕ)) (spec script : List ℕ) (source : Source) (session bytes : List ℕ) (lines : List Line) (items : List ℕ) → mid_held ≡ held →
+    AreWords words spec script → HasSource held spec source → HasScript mid_held script session bytes → lines ≡ whole_input session None bytes →
+    ((s b : List ℕ) → lines ≡ whole_input s None b → (tests : TestsOf (specification_of_source source)) → items ≡ prescribed source tests s b) →
+    Replays (λ due. items ≡ due) held words
+lines_due held mid_held words spec script source session bytes lines items same_held w h s is f =
+    (spec, script, w, source, h, session, bytes, subst (λ x. HasScript x script session bytes) same_held s, λ tests. f session bytes is tests)
+
+-- where no lines are due, nothing was written
+pub refused : (o : Outside) (words : List (List ℕ)) (e : Refusal) → IsRefused o words e → Ends {T = Unit {0}} o words (Err e)
+refused o words refusals.Usage p = p
+refused o words refusals.NoSpec p = p
+refused o words refusals.NoScript p = p
+refused o words refusals.SpecFailed p = p
+refused o words refusals.ScriptFailed p = p
+refused o words refusals.NotYet p = p
+refused o words (refusals.BadLine line) p = p
+refused o words refusals.OutputFailed p = absurd p.0
+refused o words refusals.Memory p = p
+
+-- the lines that are due gain what the expression prescribes
+gains : (Gains : List ℕ → Type 0) (held : Held) (words : List (List ℕ)) (items : List ℕ) → Replays (λ due. items ≡ due) held words → Gains items → Replays Gains held words
+gains Gains held words items r g = (r.0, r.1, r.2, r.3, r.4, r.5, r.6, r.7, λ tests. subst Gains (r.8 tests) g)
+
+-- where lines are due, they are written
+pub written : (o : Outside) (words : List (List ℕ)) (items : List ℕ) (r : Result (Unit {0}) Refusal) → Replays (λ due. items ≡ due) o.held words → o.store ≡ o.store_before →
+    WritesLines items o.written_before o.written o.output_before o.output r → Ends o words r
+written o words items (Ok done) d s p = (gains (Appends o.written_before o.written) o.held words items d p.0, (s, p.1))
+written o words items (Err refusals.Usage) d s p = absurd p
+written o words items (Err refusals.NoSpec) d s p = absurd p
+written o words items (Err refusals.NoScript) d s p = absurd p
+written o words items (Err refusals.SpecFailed) d s p = absurd p
+written o words items (Err refusals.ScriptFailed) d s p = absurd p
+written o words items (Err refusals.NotYet) d s p = absurd p
+written o words items (Err (refusals.BadLine line)) d s p = absurd p
+written o words items (Err refusals.OutputFailed) d s p = (gains (AppendsPrefix o.written_before o.written) o.held words items d p.0, p.1, s)
+written o words items (Err refusals.Memory) d s p = (s, p.0, p.1)
+
+-- the same of bytes that are the same
+pub of_bytes : (bytes items : List ℕ) (old new : Option (List ℕ)) (before now : ℕ) (r : Result (Unit {0}) Refusal) → bytes ≡ items →
+    WritesLines bytes old new before now r → WritesLines items old new before now r
+of_bytes bytes items old new before now r same p = subst (λ x. WritesLines x old new before now r) same p

@@ -1,0 +1,56 @@
+// What a replay reads and writes.
+ghost use Rattle.std.specs.Prelude.{◌≡◌};
+ghost use Rattle.ragel_run.specs.Replay.{ReadsSpec, ReadsScript, WritesLines};
+
+use crate::refusal::Refusal;
+use rl_io::{Sink, SinkFault, Store, StoreFault};
+use rl_reading::{ReadSourceError, Source, read_source};
+use rl_replay::{Script, ScriptFault, read_first_form};
+use std::alloc::Global;
+
+// The source under a name.
+pub fn read_spec<S: Store>(alloc: Global, name: &str, store: &mut S) -> Result<Source, Refusal>
+    ensures reads { ReadsSpec (S.held store.old) name.now (S.faults store.old) (S.faults store.new) result }
+    ensures same { S.held store.new ≡ S.held store.old }
+{
+    let text = match store.read(name) {
+        Ok(text) => text,
+        Err(StoreFault::Missing) => return Err(Refusal::NoSpec),
+        Err(StoreFault::Failed) => return Err(Refusal::SpecFailed),
+        Err(StoreFault::Memory) => return Err(Refusal::Memory),
+    };
+    match read_source(alloc, &text) {
+        Ok(source) => Ok(source),
+        Err(ReadSourceError::NotYet) => Err(Refusal::NotYet),
+        Err(ReadSourceError::Memory) => Err(Refusal::Memory),
+    }
+}
+
+// The script under a name.
+pub fn read_script<S: Store>(alloc: Global, name: &str, store: &mut S) -> Result<Script, Refusal>
+    ensures reads { ReadsScript (S.held store.old) name.now (S.faults store.old) (S.faults store.new) result }
+    ensures same { S.held store.new ≡ S.held store.old }
+{
+    let text = match store.read(name) {
+        Ok(text) => text,
+        Err(StoreFault::Missing) => return Err(Refusal::NoScript),
+        Err(StoreFault::Failed) => return Err(Refusal::ScriptFailed),
+        Err(StoreFault::Memory) => return Err(Refusal::Memory),
+    };
+    match read_first_form(alloc, &text) {
+        Ok(script) => Ok(script),
+        Err(ScriptFault::BadLine { line }) => Err(Refusal::BadLine(line)),
+        Err(_) => Err(Refusal::Memory),
+    }
+}
+
+// The lines go out in one piece.
+pub fn write_lines<O: Sink>(lines: &[u8], out: &mut O) -> Result<(), Refusal>
+    ensures { WritesLines lines.now (O.written out.old) (O.written out.new) (O.faults out.old) (O.faults out.new) result }
+{
+    match out.write_all(lines) {
+        Ok(()) => Ok(()),
+        Err(SinkFault::Failed) => Err(Refusal::OutputFailed),
+        Err(SinkFault::Memory) => Err(Refusal::Memory),
+    }
+}

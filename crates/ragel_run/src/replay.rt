@@ -1,0 +1,98 @@
+// A replay of a script on a source.
+ghost use Rattle.std.specs.Prelude.{◌≡◌, IfOk, IfErr, MatchOption};
+ghost use Rattle.ragel_run.specs.Replay.{AreWords, AreNoWords, Ends, EndsWith, HasCause, IsComplete, Refuses, Replays, outside as outside_of};
+
+use crate::outside::{read_script, read_spec, write_lines};
+use crate::refusal::Refusal;
+use crate::session::lines_for;
+use crate::told::{status_for, tell};
+use rl_io::{Sink, Source, Store};
+use rl_types::{Status, Text};
+use std::alloc::Global;
+
+// The two words.
+fn words_of(words: &[Text]) -> Option<(&str, &str)>
+    ensures { MatchOption result (AreNoWords words.now) (λ w. AreWords words.now w.0.now w.1.now) }
+{
+    let [spec, script] = words else {
+        return None;
+    };
+    if spec.as_str().as_bytes().ends_with(b".c") {
+        return None;
+    }
+    Some((spec.as_str(), script.as_str()))
+}
+
+// The lines that are due for these words.
+fn due_lines<S: Store>(alloc: Global, words: &[Text], store: &mut S) -> Result<Vec<u8>, Refusal>
+    ensures due { IfOk result (λ v. Replays (λ lines. v.items ≡ lines) (S.held store.old) words.now) }
+    ensures faultless { IfOk result (λ _. S.faults store.new ≡ S.faults store.old) }
+    ensures refused { IfErr result (Refuses (S.held store.old) words.now (S.faults store.old) (S.faults store.new)) }
+    ensures same { S.held store.new ≡ S.held store.old }
+{
+    let Some((spec_name, script_name)) = words_of(words) else {
+        return Err(Refusal::Usage);
+    };
+    let source = match read_spec(alloc, spec_name, store) {
+        Ok(source) => source,
+        Err(refusal) => return Err(refusal),
+    };
+    let script = match read_script(alloc, script_name, store) {
+        Ok(script) => script,
+        Err(refusal) => return Err(refusal),
+    };
+    match lines_for(alloc, &source, &script) {
+        Ok(lines) => Ok(lines),
+        Err(_) => Err(Refusal::Memory),
+    }
+}
+
+// The replay up to its end.
+fn run<S: Store, O: Sink>(
+    alloc: Global,
+    words: &[Text],
+    store: &mut S,
+    out: &mut O,
+) -> Result<(), Refusal>
+    ensures ends { Ends (outside_of (S.held store.old) (O.written out.old) (O.written out.new) (S.faults store.old) (S.faults store.new) (O.faults out.old) (O.faults out.new)) words.now result }
+    ensures same { S.held store.new ≡ S.held store.old }
+{
+    match due_lines(alloc, words, store) {
+        Ok(lines) => write_lines(&lines, out),
+        Err(refusal) => Err(refusal),
+    }
+}
+
+/// All that the program `ragel-run` does: it replays a script on a source, prints the lines of the run on `out`, and
+/// answers with its status. The words are the names of the source and of the script (this profile).
+///
+/// - `Done`: both were read, and `out` gained exactly the lines that the source's expression prescribes for the script.
+/// - `Usage`: the words are not two, or the first ends in `.c`. The line on `err` is `usage`.
+/// - `Source`: the text of the source has not the form that is built. The line is `NAME:1:1: F20 not yet`.
+/// - `Script`: a line of the script is not the due one; the first such is named, as in `NAME:2: bad line`.
+/// - `Outside`: a name is in no file (`NAME: missing`), or the store or the output failed in this call
+///   (`NAME: store failed`, `output failed`).
+/// - `Memory`: want of memory (`out of memory`). It may come in place of any other status but `Usage`.
+///
+/// Nothing is written to `out` before the run, and a failed output has a prefix of the lines. The store holds what it
+/// held, and the input is not read. What happens to `err` changes no status.
+pub fn replay<S: Store, I: Source, O: Sink, E: Sink>(
+    alloc: Global,
+    words: &[Text],
+    store: &mut S,
+    input: &mut I,
+    out: &mut O,
+    err: &mut E,
+) -> Status
+    ensures ends { EndsWith (outside_of (S.held store.old) (O.written out.old) (O.written out.new) (S.faults store.old) (S.faults store.new) (O.faults out.old) (O.faults out.new)) words.now
+        (E.written err.old) (E.written err.new) (E.faults err.old) (E.faults err.new) result }
+    ensures cause { HasCause (outside_of (S.held store.old) (O.written out.old) (O.written out.new) (S.faults store.old) (S.faults store.new) (O.faults out.old) (O.faults out.new)) words.now result }
+    ensures complete { IsComplete (outside_of (S.held store.old) (O.written out.old) (O.written out.new) (S.faults store.old) (S.faults store.new) (O.faults out.old) (O.faults out.new)) words.now
+        (E.written err.old) (E.written err.new) (E.faults err.old) (E.faults err.new) result }
+    ensures same_store { S.held store.new ≡ S.held store.old }
+    ensures same_input { (I.left input.new ≡ I.left input.old) × (I.faults input.new ≡ I.faults input.old) }
+{
+    let end = run(alloc, words, store, out);
+    tell(alloc, words, &end, err);
+    status_for(&end)
+}
