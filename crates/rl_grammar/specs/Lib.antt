@@ -1,0 +1,5 @@
+pub mod Marks
+pub mod Lexeme
+pub mod Literals
+pub mod Grammar
+pub mod Refusals

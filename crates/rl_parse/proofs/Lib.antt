@@ -1,0 +1,13 @@
+pub mod AllKinds
+pub mod Texts
+pub mod Loop
+pub mod Operands
+pub mod Nodes
+pub mod Leaves
+pub mod PartLaws
+pub mod Trees
+pub mod ExpressionLaws
+pub mod StatementLaws
+pub mod Whole
+pub mod DigitLaws
+pub mod Refused

@@ -1,0 +1,4 @@
+pub mod Reading
+pub mod Classes
+pub mod Rules
+pub mod Parse
