@@ -1,0 +1,10 @@
+mod Classes
+mod KindLaws
+mod WordLaws
+mod IntegerLaws
+mod SignLaws
+mod PieceLaws
+mod LongestLaws
+mod TokenLaws
+mod WalkLaws
+mod PartLaws

@@ -1,0 +1,10 @@
+use Rattle.std.proofs.Common.{length, ◌-◌, ◌≡◌, ◌+◌, ◌≤◌, drop, cond}
+use Rattle.rl_lexical.specs.Gaps.{gap_len, comment_len}
+use Rattle.rl_lex.proofs.gap.gap_len.Given as goal
+
+abbrev pub invariant-loop-n : goal.invariant-loop-n
+invariant-loop-n l =
+    (l.n + cond l.in_comment (comment_len (drop l.n l.text)) (gap_len (drop l.n l.text)) ≡ gap_len l.text) × (l.n ≤ length l.text)
+
+abbrev pub decreases-loop-n : goal.decreases-loop-n
+decreases-loop-n l = length l.text - l.n

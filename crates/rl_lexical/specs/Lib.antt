@@ -1,0 +1,13 @@
+pub mod Bytes
+pub mod Gaps
+pub mod Places
+pub mod Blocks
+pub mod Modes
+pub mod Signs
+pub mod Words
+pub mod Contexts
+pub mod Forms
+pub mod Fronts
+pub mod Tokens
+pub mod Parts
+pub mod Answers
