@@ -1,0 +1,6 @@
+use Rattle.std.proofs.Common.{◌≡◌, map, take}
+use Rattle.rl_classes.specs.Sets.{with_value, bit_of}
+use Rattle.rl_classes.proofs.partition.bits.Given as goal
+
+abbrev pub invariant-loop-step : goal.invariant-loop-step
+invariant-loop-step l = l.later.items ≡ map (with_value bit_of) (take l.step-index l.set.later.items)

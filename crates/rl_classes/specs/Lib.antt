@@ -1,0 +1,4 @@
+pub mod Steps
+pub mod Sets
+pub mod Pieces
+pub mod Classes

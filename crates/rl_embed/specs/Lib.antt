@@ -1,0 +1,4 @@
+pub mod Embeds
+pub mod Changed
+pub mod Marked
+pub mod Guarded

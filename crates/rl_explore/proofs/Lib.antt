@@ -1,0 +1,4 @@
+pub mod NumberLaws
+pub mod Edges
+pub mod RowLaws
+pub mod ExploredLaws

@@ -1,0 +1,3 @@
+pub mod Minimal
+pub mod Sound
+pub mod Machine

@@ -1,0 +1,9 @@
+pub mod Settled
+pub mod Parts
+pub mod Moves
+pub mod Same
+pub mod Tests
+pub mod Ranges
+pub mod Rounds
+pub mod Live
+pub mod Causes
