@@ -2,12 +2,16 @@
 use Rattle.std.proofs.Common.{◌≡◌, ◌∙◌, ◌⊎◌, inl, inr, ℕ, zero, suc, ◌+◌, ◌≤◌, List, [], ◌∷◌, take, Option, Some, None, Result, Ok, Err, IsSome, refl, sym, ap, subst, arith}
 use Rattle.rl_io.specs.Outside.{Held, Reads, Lacks}
 use Rattle.rl_types.specs.declared.status.Status.{Status}
+use Rattle.rl_grammar.specs.declared.read_fault.ReadFault.{ReadFault}
+use Rattle.rl_grammar.specs.declared.read_fault.ReadFault.TheVariants as reason
 use Rattle.rl_reading.specs.Reading as reading
+use Rattle.rl_reading.specs.Reading.{IsRefusal}
+use Rattle.rl_reading.proofs.ReadingLaws.{refusals_once, read_or_refused}
 use Rattle.rl_replay.specs.FirstForm.{Begins, IsFirstBad, IsFirstForm}
 use Rattle.rl_replay.specs.Script.{lines_of}
 use Rattle.ragel_run.specs.declared.refusal.Refusal.{Refusal}
 use Rattle.ragel_run.specs.declared.refusal.Refusal.TheVariants as refusals
-use Rattle.ragel_run.specs.Replay.{Outside, Ends, Due, DueBySpec, DueByScript, HasNoFault, HasCause, IsComplete, EndsWith, Tells, status_of, line_of}
+use Rattle.ragel_run.specs.Replay.{Outside, Ends, Due, DueBySpec, DueByScript, HasNoFault, HasCause, IsComplete, EndsWith, Tells, status_of, line_of, refusal_of}
 
 -- what is told is read in one way, and is not lacking
 reads_once : (held : Held) (name t u : List ℕ) → IsSome held → Reads held name t → Reads held name u → t ≡ u
@@ -68,15 +72,17 @@ module _ (held : Held) (told : IsSome held) where
 
   spec_once : (spec script : List ℕ) (e f : Result (Unit {0}) Refusal) → DueBySpec held spec script e → DueBySpec held spec script f → e ≡ f
   spec_once spec script e f (inl a) (inl b) = a.1 ∙ sym b.1
-  spec_once spec script e f (inl a) (inr (inl b)) = absurd (lacks_not held spec b.0 told a.0 b.1)
+  spec_once spec script e f (inl a) (inr (inl b)) = absurd (lacks_not held spec b.1.text told a.0 b.1.reads)
   spec_once spec script e f (inl a) (inr (inr b)) = absurd (lacks_not held spec b.1.text told a.0 b.1.reads)
-  spec_once spec script e f (inr (inl a)) (inl b) = absurd (lacks_not held spec a.0 told b.0 a.1)
-  spec_once spec script e f (inr (inl a)) (inr (inl b)) = a.3 ∙ sym b.3
+  spec_once spec script e f (inr (inl a)) (inl b) = absurd (lacks_not held spec a.1.text told b.0 a.1.reads)
+  spec_once spec script e f (inr (inl a)) (inr (inl b)) =
+      let other = subst (λ t. IsRefusal t b.0) (reads_once held spec b.1.text a.1.text told b.1.reads a.1.reads) b.1.refused in
+      a.2 ∙ ap (λ x. Err (refusal_of x)) (refusals_once a.1.text a.0 b.0 a.1.refused other) ∙ sym b.2
   spec_once spec script e f (inr (inl a)) (inr (inr b)) =
-      absurd (a.2 b.0 (subst (λ t. reading.Reads t b.0) (reads_once held spec b.1.text a.0 told b.1.reads a.1) b.1.means))
+      absurd (read_or_refused a.1.text b.0 a.0 (subst (λ t. reading.Reads t b.0) (reads_once held spec b.1.text a.1.text told b.1.reads a.1.reads) b.1.means) a.1.refused)
   spec_once spec script e f (inr (inr a)) (inl b) = absurd (lacks_not held spec a.1.text told b.0 a.1.reads)
   spec_once spec script e f (inr (inr a)) (inr (inl b)) =
-      absurd (b.2 a.0 (subst (λ t. reading.Reads t a.0) (reads_once held spec a.1.text b.0 told a.1.reads b.1) a.1.means))
+      absurd (read_or_refused b.1.text a.0 b.0 (subst (λ t. reading.Reads t a.0) (reads_once held spec a.1.text b.1.text told a.1.reads b.1.reads) a.1.means) b.1.refused)
   spec_once spec script e f (inr (inr a)) (inr (inr b)) = script_once script e f a.2 b.2
 
   due_once : (words : List (List ℕ)) (e f : Result (Unit {0}) Refusal) → Due held words e → Due held words f → e ≡ f
@@ -101,7 +107,8 @@ ends_due o words (Ok tt) n p = let d = p.0 in inl (inr (d.0, d.1, d.2, inr (inr 
 ends_due o words (Err refusals.Usage) n p = inl (inl (p.0.0, refl))
 ends_due o words (Err refusals.NoSpec) n p = let c = p.0 in inl (inr (c.0, c.1, c.2, inl (c.3, refl)))
 ends_due o words (Err refusals.SpecFailed) n p = absurd (n.store p.0.3)
-ends_due o words (Err refusals.NotYet) n p = let c = p.0 in inl (inr (c.0, c.1, c.2, inr (inl (c.3, c.4, c.5, refl))))
+ends_due o words (Err (refusals.Fault fault)) n p = let c = p.0 in inl (inr (c.0, c.1, c.2, inr (inl (reason.Fault fault, c.3, refl))))
+ends_due o words (Err (refusals.Limit limit)) n p = let c = p.0 in inl (inr (c.0, c.1, c.2, inr (inl (reason.Limit limit, c.3, refl))))
 ends_due o words (Err refusals.NoScript) n p = let c = p.0 in inl (inr (c.0, c.1, c.2, inr (inr (c.3, c.4, inl (c.5, refl)))))
 ends_due o words (Err refusals.ScriptFailed) n p = absurd (n.store p.0.5)
 ends_due o words (Err (refusals.BadLine line)) n p = let c = p.0 in inl (inr (c.0, c.1, c.2, inr (inr (c.3, c.4, inr (inl (c.5, line, c.6, c.7, refl))))))
@@ -121,7 +128,8 @@ ends_cause o words (Ok tt) p = p
 ends_cause o words (Err refusals.Usage) p = p.0.0
 ends_cause o words (Err refusals.NoSpec) p = let c = p.0 in inr (inr (c.0, c.1, c.2, inl c.3))
 ends_cause o words (Err refusals.SpecFailed) p = inl p.0.3
-ends_cause o words (Err refusals.NotYet) p = let c = p.0 in (c.0, c.1, c.2, c.3, c.4, c.5)
+ends_cause o words (Err (refusals.Fault fault)) p = let c = p.0 in (c.0, c.1, c.2, fault, c.3)
+ends_cause o words (Err (refusals.Limit limit)) p = let c = p.0 in (c.0, c.1, c.2, limit, c.3)
 ends_cause o words (Err refusals.NoScript) p = let c = p.0 in inr (inr (c.0, c.1, c.2, inr c.5))
 ends_cause o words (Err refusals.ScriptFailed) p = inl p.0.5
 ends_cause o words (Err (refusals.BadLine line)) p = let c = p.0 in (c.0, c.1, c.2, c.5, c.6, line, c.7)

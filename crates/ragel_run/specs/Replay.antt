@@ -1,13 +1,22 @@
 -- What a replay writes, and when it ends how (this profile).
 use Rattle.std.specs.Prelude.{◌≡◌, ◌==◌, ◌⊎◌, ℕ, false, IsSome, List, [], ◌∷◌, ◌++◌, Option, None, Result, Ok, Err, codes, decimal}
 use Rattle.std.specs.List.{ends_with}
+use Rattle.rl_types.specs.declared.faults.Fault.{Fault}
+use Rattle.rl_types.specs.declared.faults.FaultKind.{FaultKind}
+use Rattle.rl_types.specs.declared.faults.FaultKind.TheVariants as f
+use Rattle.rl_types.specs.declared.faults.Limit.{Limit}
+use Rattle.rl_types.specs.declared.faults.LimitKind.{LimitKind}
+use Rattle.rl_types.specs.declared.faults.LimitKind.TheVariants as l
+use Rattle.rl_types.specs.declared.numbers.Place.{Place}
 use Rattle.rl_types.specs.declared.status.Status.{Status}
 use Rattle.rl_types.specs.declared.status.Status.TheVariants as statuses
+use Rattle.rl_grammar.specs.declared.read_fault.ReadFault.{ReadFault}
+use Rattle.rl_grammar.specs.declared.read_fault.ReadFault.TheVariants as reason
 use Rattle.rl_io.specs.Outside.{Held, Rose, Reads, Lacks, Appends, AppendsPrefix}
 use Rattle.rl_model.specs.Trees.{TestsOf, tree_machine}
 use Rattle.rl_reading.specs.declared.source.Source.{Source}
 use Rattle.rl_reading.specs.Form.{IsSource}
-use Rattle.rl_reading.specs.Reading.{ReadsNothing}
+use Rattle.rl_reading.specs.Reading.{IsRefusal}
 use Rattle.rl_reading.specs.Reading as reading
 use Rattle.rl_reading.specs.Rewriting.{specification_of_source}
 use Rattle.rl_replay.specs.declared.script.Script.{Script}
@@ -55,6 +64,12 @@ pub record HasSource (held : Held) (name : List ℕ) (source : Source) : Type 0 
   pub reads : Reads held name text
   pub means : reading.Reads text source
 
+-- the text under a name is refused as a source, first for this
+pub record HasFault (held : Held) (name : List ℕ) (e : ReadFault) : Type 0 where
+  pub text : List ℕ
+  pub reads : Reads held name text
+  pub refused : IsRefusal text e
+
 -- the text under a name is a script that opens a session, feeds it bytes and ends it
 pub record HasScript (held : Held) (name session bytes : List ℕ) : Type 0 where
   pub text : List ℕ
@@ -93,8 +108,8 @@ abbrev pub Refuses : Held → List (List ℕ) → ℕ → ℕ → Refusal → Ty
 Refuses held words before now refusals.Usage = AreNoWords words × (now ≡ before)
 Refuses held words before now refusals.NoSpec = (spec script : List ℕ) × AreWords words spec script × Lacks held spec × (now ≡ before)
 Refuses held words before now refusals.SpecFailed = (spec script : List ℕ) × AreWords words spec script × Rose before now
-Refuses held words before now refusals.NotYet =
-    (spec script : List ℕ) × AreWords words spec script × (text : List ℕ) × Reads held spec text × ReadsNothing text × (now ≡ before)
+Refuses held words before now (refusals.Fault fault) = (spec script : List ℕ) × AreWords words spec script × HasFault held spec (reason.Fault fault) × (now ≡ before)
+Refuses held words before now (refusals.Limit limit) = (spec script : List ℕ) × AreWords words spec script × HasFault held spec (reason.Limit limit) × (now ≡ before)
 Refuses held words before now refusals.NoScript =
     (spec script : List ℕ) × AreWords words spec script × (source : Source) × HasSource held spec source × Lacks held script × (now ≡ before)
 Refuses held words before now refusals.ScriptFailed =
@@ -116,7 +131,8 @@ Ends o words (Err refusals.OutputFailed) = IsCut o words × Rose o.output_before
 Ends o words (Err refusals.Usage) = IsRefused o words refusals.Usage
 Ends o words (Err refusals.NoSpec) = IsRefused o words refusals.NoSpec
 Ends o words (Err refusals.SpecFailed) = IsRefused o words refusals.SpecFailed
-Ends o words (Err refusals.NotYet) = IsRefused o words refusals.NotYet
+Ends o words (Err (refusals.Fault fault)) = IsRefused o words (refusals.Fault fault)
+Ends o words (Err (refusals.Limit limit)) = IsRefused o words (refusals.Limit limit)
 Ends o words (Err refusals.NoScript) = IsRefused o words refusals.NoScript
 Ends o words (Err refusals.ScriptFailed) = IsRefused o words refusals.ScriptFailed
 Ends o words (Err (refusals.BadLine line)) = IsRefused o words (refusals.BadLine line)
@@ -129,11 +145,17 @@ DueByScript held script end =
     ⊎ ((text : List ℕ) × (line : ℕ) × Reads held script text × IsFirstBad (lines_of text) line × (end ≡ Err (refusals.BadLine line)))
     ⊎ ((session bytes : List ℕ) × HasScript held script session bytes × (end ≡ Ok tt))
 
+-- the end of a replay whose source is refused
+abbrev pub refusal_of : ReadFault → Refusal
+refusal_of (reason.Fault fault) = refusals.Fault fault
+refusal_of (reason.Limit limit) = refusals.Limit limit
+refusal_of reason.Memory = refusals.Memory
+
 -- how a replay of this source, and then of this script, is to end
 abbrev pub DueBySpec : Held → List ℕ → List ℕ → Result (Unit {0}) Refusal → Type 0
 DueBySpec held spec script end =
     (Lacks held spec × (end ≡ Err refusals.NoSpec))
-    ⊎ ((text : List ℕ) × Reads held spec text × ReadsNothing text × (end ≡ Err refusals.NotYet))
+    ⊎ ((e : ReadFault) × HasFault held spec e × (end ≡ Err (refusal_of e)))
     ⊎ ((source : Source) × HasSource held spec source × DueByScript held script end)
 
 -- how a replay of these words is to end: the words are looked at first, then the source, then the script
@@ -156,10 +178,53 @@ status_of (Err refusals.NoSpec) = statuses.Outside
 status_of (Err refusals.NoScript) = statuses.Outside
 status_of (Err refusals.SpecFailed) = statuses.Outside
 status_of (Err refusals.ScriptFailed) = statuses.Outside
-status_of (Err refusals.NotYet) = statuses.Source
+status_of (Err (refusals.Fault fault)) = statuses.Source
+status_of (Err (refusals.Limit limit)) = statuses.Limit
 status_of (Err (refusals.BadLine line)) = statuses.Script
 status_of (Err refusals.OutputFailed) = statuses.Outside
 status_of (Err refusals.Memory) = statuses.Memory
+
+-- the number of a fault, and what it is
+abbrev pub words_of_fault : FaultKind → List ℕ
+words_of_fault f.F1 = codes "F1 bad character"
+words_of_fault f.F2 = codes "F2 unclosed"
+words_of_fault f.F3 = codes "F3 syntax"
+words_of_fault f.F4 = codes "F4 no machine"
+words_of_fault f.F5 = codes "F5 unknown name"
+words_of_fault f.F6 = codes "F6 twice"
+words_of_fault f.F7 = codes "F7 number"
+words_of_fault f.F8 = codes "F8 key range"
+words_of_fault f.F9 = codes "F9 range ends"
+words_of_fault f.F10 = codes "F10 counts"
+words_of_fault f.F11 = codes "F11 scanner place"
+words_of_fault f.F12 = codes "F12 zero token"
+words_of_fault f.F13 = codes "F13 statement place"
+words_of_fault f.F14 = codes "F14 mark in scanner"
+words_of_fault f.F15 = codes "F15 priority cycle"
+words_of_fault f.F16 = codes "F16 no entry"
+words_of_fault f.F17 = codes "F17 include loop"
+words_of_fault f.F18 = codes "F18 no instance"
+words_of_fault f.F19 = codes "F19 marker"
+words_of_fault f.F20 = codes "F20 not yet"
+
+-- the number of a limit, and what it counts
+abbrev pub words_of_limit : LimitKind → List ℕ
+words_of_limit l.L1 = codes "L1 bytes"
+words_of_limit l.L2 = codes "L2 includes"
+words_of_limit l.L3 = codes "L3 parentheses"
+words_of_limit l.L4 = codes "L4 nodes"
+words_of_limit l.L5 = codes "L5 depth"
+words_of_limit l.L6 = codes "L6 configurations"
+words_of_limit l.L7 = codes "L7 conditions"
+words_of_limit l.L8 = codes "L8 cells"
+words_of_limit l.L9 = codes "L9 names"
+words_of_limit l.L10 = codes "L10 statements"
+words_of_limit l.L11 = codes "L11 states"
+words_of_limit l.L12 = codes "L12 input"
+
+-- what is wrong at a place in a file
+abbrev pub told_at : List ℕ → Place → List ℕ → List ℕ
+told_at name place words = name ++ codes ":" ++ decimal place.line ++ codes ":" ++ decimal place.col ++ codes ": " ++ words ++ codes "\n"
 
 -- the line on the error output, by the names of the source and the script
 abbrev pub told : {T : Type 0} → List ℕ → List ℕ → Result T Refusal → List ℕ
@@ -169,7 +234,8 @@ told spec script (Err refusals.NoSpec) = spec ++ codes ": missing\n"
 told spec script (Err refusals.NoScript) = script ++ codes ": missing\n"
 told spec script (Err refusals.SpecFailed) = spec ++ codes ": store failed\n"
 told spec script (Err refusals.ScriptFailed) = script ++ codes ": store failed\n"
-told spec script (Err refusals.NotYet) = spec ++ codes ":1:1: F20 not yet\n"
+told spec script (Err (refusals.Fault fault)) = told_at spec fault.place (words_of_fault fault.kind)
+told spec script (Err (refusals.Limit limit)) = told_at spec limit.place (words_of_limit limit.kind)
 told spec script (Err (refusals.BadLine line)) = script ++ codes ":" ++ decimal line ++ codes ": bad line\n"
 told spec script (Err refusals.OutputFailed) = codes "output failed\n"
 told spec script (Err refusals.Memory) = codes "out of memory\n"
@@ -179,7 +245,8 @@ abbrev pub ReadsSpec : Held → List ℕ → ℕ → ℕ → Result Source Refus
 ReadsSpec held name before now (Ok source) = HasSource held name source × IsSource source × (now ≡ before)
 ReadsSpec held name before now (Err refusals.NoSpec) = Lacks held name × (now ≡ before)
 ReadsSpec held name before now (Err refusals.SpecFailed) = Rose before now
-ReadsSpec held name before now (Err refusals.NotYet) = (text : List ℕ) × Reads held name text × ReadsNothing text × (now ≡ before)
+ReadsSpec held name before now (Err (refusals.Fault fault)) = HasFault held name (reason.Fault fault) × (now ≡ before)
+ReadsSpec held name before now (Err (refusals.Limit limit)) = HasFault held name (reason.Limit limit) × (now ≡ before)
 ReadsSpec held name before now (Err refusals.Memory) = now ≡ before
 ReadsSpec held name before now (Err _) = ⊥
 
@@ -233,10 +300,10 @@ IsComplete o words old new before now status =
 abbrev pub HasCause : Outside → List (List ℕ) → Status → Type 0
 HasCause o words statuses.Done = IsDone o words × IsFaultless o
 HasCause o words statuses.Usage = AreNoWords words
-HasCause o words statuses.Source = (spec script : List ℕ) × AreWords words spec script × (text : List ℕ) × Reads o.held spec text × ReadsNothing text
+HasCause o words statuses.Source = (spec script : List ℕ) × AreWords words spec script × (fault : Fault) × HasFault o.held spec (reason.Fault fault)
 HasCause o words statuses.Script = (spec script : List ℕ) × AreWords words spec script × (text : List ℕ) × Reads o.held script text × (line : ℕ) × IsFirstBad (lines_of text) line
 HasCause o words statuses.Outside =
     Rose o.store_before o.store ⊎ Rose o.output_before o.output ⊎ ((spec script : List ℕ) × AreWords words spec script × (Lacks o.held spec ⊎ Lacks o.held script))
 HasCause o words statuses.Memory = Unit {0}
-HasCause o words statuses.Limit = ⊥
+HasCause o words statuses.Limit = (spec script : List ℕ) × AreWords words spec script × (limit : Limit) × HasFault o.held spec (reason.Limit limit)
 HasCause o words statuses.Tables = ⊥

@@ -4,7 +4,7 @@ ghost use Rattle.ragel_run.specs.Replay.{ReadsSpec, ReadsScript, WritesLines};
 
 use crate::refusal::Refusal;
 use rl_io::{Sink, SinkFault, Store, StoreFault};
-use rl_reading::{ReadSourceError, Source, read_source};
+use rl_reading::{ReadFault, Source, read_source};
 use rl_replay::{Script, ScriptFault, read_first_form};
 use std::alloc::Global;
 
@@ -21,8 +21,9 @@ pub fn read_spec<S: Store>(alloc: Global, name: &str, store: &mut S) -> Result<S
     };
     match read_source(alloc, &text) {
         Ok(source) => Ok(source),
-        Err(ReadSourceError::NotYet) => Err(Refusal::NotYet),
-        Err(ReadSourceError::Memory) => Err(Refusal::Memory),
+        Err(ReadFault::Fault(fault)) => Err(Refusal::Fault(fault)),
+        Err(ReadFault::Limit(limit)) => Err(Refusal::Limit(limit)),
+        Err(ReadFault::Memory) => Err(Refusal::Memory),
     }
 }
 

@@ -1,4 +1,5 @@
 // Why a replay ends before its end.
+use rl_types::{Fault, Limit};
 
 /// Why a replay ends before its end.
 #[derive(Clone, Copy, Debug, PartialEq, Eq)]
@@ -13,8 +14,10 @@ pub enum Refusal {
     SpecFailed,
     /// The store failed to read the script.
     ScriptFailed,
-    /// The source has not the form that is built.
-    NotYet,
+    /// The first fault of the source.
+    Fault(Fault),
+    /// The first limit that the source passes.
+    Limit(Limit),
     /// The first line of the script, from 1, that is not the due one.
     BadLine(u64),
     /// The output failed.

@@ -68,7 +68,9 @@ fn run<S: Store, O: Sink>(
 ///
 /// - `Done`: both were read, and `out` gained exactly the lines that the source's expression prescribes for the script.
 /// - `Usage`: the words are not two, or the first ends in `.c`. The line on `err` is `usage`.
-/// - `Source`: the text of the source has not the form that is built. The line is `NAME:1:1: F20 not yet`.
+/// - `Source`: the source has a fault; the first is named with its place, as in `NAME:1:24: F3 syntax`. F20 stands for
+///   what is not built yet.
+/// - `Limit`: the source passes a limit; the first is named, as in `NAME:1:152: L3 parentheses`.
 /// - `Script`: a line of the script is not the due one; the first such is named, as in `NAME:2: bad line`.
 /// - `Outside`: a name is in no file (`NAME: missing`), or the store or the output failed in this call
 ///   (`NAME: store failed`, `output failed`).

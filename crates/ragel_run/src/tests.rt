@@ -37,6 +37,19 @@ const STOPPED: Row = Row {
     ..RAN
 };
 
+const SEVERAL: Row = Row {
+    files: [
+        (
+            "m.rl",
+            "%%{ machine m; action x { n++; } action y { } main := 'a' $x . \"b\\n\" $(y) 'c'; }%% tail",
+        ),
+        ("t", "open s\npiece s \"ab\"\nend s\n"),
+    ],
+    words: &["m.rl", "t"],
+    out: "s do x 0\ns do y 1\ns end partial 2\n",
+    ..RAN
+};
+
 const NOT_BUILT: Row = Row {
     files: [
         ("m.rl", "%%{ machine m; main := 'a' | 'b'; }%%"),
@@ -45,7 +58,67 @@ const NOT_BUILT: Row = Row {
     words: &["m.rl", "t"],
     status: Status::Source,
     out: "",
+    err: "m.rl:1:28: F20 not yet\n",
+    ..RAN
+};
+
+const NO_MACHINE: Row = Row {
+    files: [("m.rl", "%%{ main := 'a'; }%%"), ("t", RUN)],
+    words: &["m.rl", "t"],
+    status: Status::Source,
+    out: "",
     err: "m.rl:1:1: F20 not yet\n",
+    ..RAN
+};
+
+const NO_ACTION: Row = Row {
+    files: [("m.rl", "%%{ machine m; main := 'a' $x; }%%"), ("t", RUN)],
+    words: &["m.rl", "t"],
+    status: Status::Source,
+    out: "",
+    err: "m.rl:1:29: F20 not yet\n",
+    ..RAN
+};
+
+const UNCLOSED: Row = Row {
+    files: [("m.rl", "%%{ machine m; action a { "), ("t", RUN)],
+    words: &["m.rl", "t"],
+    status: Status::Source,
+    out: "",
+    err: "m.rl:1:25: F2 unclosed\n",
+    ..RAN
+};
+
+const WRONG_SIGN: Row = Row {
+    files: [("m.rl", "%%{ machine m; main := 'a' ^ ; }%%"), ("t", RUN)],
+    words: &["m.rl", "t"],
+    status: Status::Source,
+    out: "",
+    err: "m.rl:1:30: F3 syntax\n",
+    ..RAN
+};
+
+const WRONG_START: Row = Row {
+    files: [("m.rl", "%%{ machine m; main := ) ; }%%"), ("t", RUN)],
+    words: &["m.rl", "t"],
+    status: Status::Source,
+    out: "",
+    err: "m.rl:1:24: F3 syntax\n",
+    ..RAN
+};
+
+const TOO_DEEP: Row = Row {
+    files: [
+        (
+            "m.rl",
+            "%%{ machine m; main := ((((((((((((((((((((((((((((((((((((((((((((((((((((((((((((((((((((((((((((((((((((((((((((((((((((((((((((((((((((((((((((((((('a'; }%%",
+        ),
+        ("t", RUN),
+    ],
+    words: &["m.rl", "t"],
+    status: Status::Limit,
+    out: "",
+    err: "m.rl:1:152: L3 parentheses\n",
     ..RAN
 };
 
@@ -150,7 +223,14 @@ fn rows_come(rt: HostRuntime) -> Result<(), Fail> {
     let rows = [
         &RAN,
         &STOPPED,
+        &SEVERAL,
         &NOT_BUILT,
+        &NO_MACHINE,
+        &NO_ACTION,
+        &UNCLOSED,
+        &WRONG_SIGN,
+        &WRONG_START,
+        &TOO_DEEP,
         &BAD_LINE,
         &MISSING,
         &STORE_FAILED,

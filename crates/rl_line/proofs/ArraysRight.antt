@@ -1,29 +1,43 @@
 -- The arrays of a line are valid.
 use Rattle.std.proofs.lemmas.Bool.Decides.{nat_tests}
-use Rattle.std.proofs.Common.{codes, IsTrue, nat_le, ◌*◌, map, ◌≡◌, ◌≢◌, ℕ, zero, suc, ◌+◌, ◌-◌, ◌<◌, ◌≤◌, max, min, ℤ, pos, ◌≤ℤ◌, ◌<ℤ◌, ◌+ℤ◌, Bool, true, false, cond, nat_eq, nat_lt, List, [], ◌∷◌, ◌++◌, length, Option, Some, None, IfSome, slice_get, refl, sym, ◌∙◌, ap, subst, arith, length-append, inl, inr}
-use Rattle.std.proofs.lemmas.List.{length-map}
+use Rattle.std.proofs.Common.{codes, IsTrue, ◌*◌, ◌≡◌, ◌≢◌, ℕ, zero, suc, ◌+◌, ◌-◌, ◌<◌, ◌≤◌, max, min, ℤ, pos, ◌≤ℤ◌, ◌<ℤ◌, ◌+ℤ◌, Bool, true, false, cond, nat_eq, nat_lt, List, [], ◌∷◌, ◌++◌, length, Option, Some, None, IfSome, slice_get, refl, sym, ◌∙◌, ap, subst, arith, length-append, inl, inr}
 use Rattle.std.proofs.Math.Facts.{yes_leb, leb_yes, yes_ltb, ltb_yes}
 use Rattle.std.proofs.lemmas.Nat.{ones_le_self}
 use Rattle.std.proofs.Math.IntN.{+ℤ_idr, pos-+ℤ-pos}
 use Rattle.std.specs.Prelude.{◌⊎◌, ◌^◌, option_and_then, count_ones}
 use Rattle.std.specs.Option.{option_map}
-use Rattle.std.proofs.lemmas.Option.{slice_get_past, slice_get_within, slice_get-get_or, get_or_from_slice_get}
+use Rattle.std.specs.List.{flat_map}
+use Rattle.std.proofs.lemmas.Option.{slice_get_within, slice_get-get_or}
 use Rattle.std.proofs.lemmas.List.FromFn.{length-map-range_with_len, get_or-map-range_with_len}
 use Rattle.rl_arrays.specs.declared.arrays.Arrays.{Arrays}
 use Rattle.rl_arrays.specs.declared.arrays.ArrayName.{ArrayName}
 use Rattle.rl_arrays.specs.declared.arrays.ArrayName.TheVariants as the
-use Rattle.rl_arrays.specs.Words.{natural, IfAt, IsAt, IsBetween, number_at, plus, sum_before, IsFirstWrong}
+use Rattle.rl_arrays.specs.Words.{natural, IfAt, IsBetween, plus, sum_before}
 use Rattle.rl_arrays.specs.Sizes.{statements_end, statements_of, one_more, IsClosing, states, keys_of, cells_of, entries_of, keys_end, cells_end, entries_end, has, due}
 use Rattle.std.specs.Option.{IsSomeAnd}
 use Rattle.rl_types.specs.Alphabet.{has_key}
 use Rattle.rl_types.specs.declared.alphabet.Alphabet.TheVariants.{Char}
-use Rattle.rl_arrays.specs.KeyRules.{KeySays, IsKey}
-use Rattle.rl_line.specs.LineArrays.{IsLine}
-use Rattle.rl_arrays.specs.Lists.{left_next, left_at, IsList}
+use Rattle.rl_arrays.specs.KeyRules.{KeySays}
+use Rattle.rl_arrays.specs.Lists.{left_at, IsList}
 use Rattle.rl_arrays.specs.Names.{is_name, is_action_name}
-use Rattle.rl_arrays.specs.Rules.{ActionSays, IsAction, StatementSays, MarkSays, ArgumentSays, BaseSays, EntrySays, HeadRight, NameSays, FirstSays, CountSays, Says, IsState, IsSum, HasKind, LengthSays, AskSays, CellEntrySays, TargetSays, StepListSays, ListSays, EndListSays, TokenListSays, KindSays, HomeSays}
-use Rattle.rl_arrays.specs.Valid.{Right, span, FirstWrong, Valid}
-use Rattle.rl_line.specs.LineArrays.{filled, zeros, offset, single, before_end, list_elements, list_number, line_arrays}
+use Rattle.rl_arrays.specs.Rules.{ActionSays, IsAction, StatementSays, MarkSays, ArgumentSays, BaseSays, EntrySays, NameSays, FirstSays, CountSays, Says, IsState, IsSum, HasKind, LengthSays, AskSays, CellEntrySays, TargetSays, StepListSays, ListSays, EndListSays, TokenListSays, KindSays, HomeSays}
+use Rattle.rl_arrays.specs.Valid.{FirstWrong, Valid}
+use Rattle.rl_line.specs.LineArrays.{filled, zeros, offset, single, before_end, laid, line_arrays}
+use Rattle.rl_line.proofs.Tiles.{Begins, AreMembers, each_says, end_free, whole_tiled}
+
+-- what the arrays of a line rest on: names are names and differ; there are not too many characters, and each has a key of
+-- the alphabet; the first list is the empty one, lists have numbers of actions, and each number on a step is a list's
+pub record IsLine (machine : List ℕ) (names lists : List (List ℕ)) (keys numbers : List ℤ) : Type 0 where
+  pub named : IsTrue (is_name machine)
+  pub few : length keys ≤ 2147483645
+  pub as_many : length numbers ≡ length keys
+  pub known : (i : ℕ) (key : ℤ) → slice_get keys i ≡ Some key → IsTrue (has_key Char key)
+  pub empty : slice_get lists 0 ≡ Some []
+  pub members : AreMembers (λ n. (pos 1 ≤ℤ n) × (n <ℤ pos (suc (length names)))) lists
+  pub begun : (i : ℕ) (n : ℤ) → slice_get numbers i ≡ Some n → (pos 0 ≤ℤ n) × ((list : List ℕ) × Begins (flat_map laid lists) (natural n) list)
+  pub formed : (i : ℕ) (name : List ℕ) → slice_get names i ≡ Some name → IsTrue (is_action_name name)
+  pub differ : (i k : ℕ) (name : List ℕ) → k < i → slice_get names i ≡ Some name → slice_get names k ≢ Some name
+  pub countable : length names ≤ 2147483646
 
 if_at : {X : Type 0} (xs : List X) (i : ℕ) (P : X → Type 0) → ((x : X) → slice_get xs i ≡ Some x → P x) → IfAt xs i P
 if_at xs i P f = go (slice_get xs i) f
@@ -121,85 +135,59 @@ last_or_in (y ∷ ys) last zero x e = inl (omega arith, e)
 last_or_in (y ∷ ys) last (suc i) x e = let r : ((i < length ys) × (slice_get ys i ≡ Some x)) ⊎ ((i ≡ length ys) × (x ≡ last)) = last_or_in ys last i x e in
     elim r [ inl h ↦ inl (omega (arith, h.0), h.1) | inr h ↦ inr (omega (arith, h.0), h.1) ]
 
--- an element of the characters as keys
-pub key_from : (cs : List ℕ) (i : ℕ) (x : ℤ) → slice_get (map pos cs) i ≡ Some x → (c : ℕ) × (slice_get cs i ≡ Some c) × (x ≡ pos c)
-key_from [] i x e = absurd (none i e)
-  where
-    none : (i : ℕ) → slice_get {X = ℤ} [] i ≡ Some x → ⊥
-    none zero e = cc
-    none (suc i) e = cc
-key_from (c ∷ cs) zero x e = (c, refl, sym (some_same (pos c) x e))
-key_from (c ∷ cs) (suc i) x e = key_from cs i x e
-
--- the elements of one list behind the empty one
-abbrev one_list : ℕ → List ℤ
-one_list k = pos 0 ∷ pos k ∷ filled k (λ i. pos (i + 1))
-
--- how many of its members are still to come
-left_in : (k i : ℕ) → 0 < k → i ≤ k → left_at (one_list k) (suc (suc i)) ≡ k - i
-unfolding left_at
-left_in k zero h g = omega arith
-left_in k (suc i) h g =
-    let before : left_at (one_list k) (suc (suc i)) ≡ k - i = left_in k i h (omega (arith, g)) in
-    let some : nat_eq (k - i) 0 ≡ false = grind (arith, nat_tests, g) in
-    ap (λ w. left_next w (number_at (one_list k) (suc (suc i)))) before ∙ (λ j. cond (some j) (number_at (one_list k) (suc (suc i))) (k - i - 1)) ∙ omega (arith, g)
-
-left_first : (k : ℕ) → left_at (one_list k) 1 ≡ 0
-unfolding left_at
-left_first k = refl
-
-left_none : left_at (pos 0 ∷ []) 1 ≡ 0
-unfolding left_at
-left_none = refl
-
 left_begin : (xs : List ℤ) → left_at xs 0 ≡ 0
 unfolding left_at
 left_begin xs = refl
 
-module _ (machine cs : List ℕ) (names : List (List ℕ)) (line : IsLine machine cs names) where
+-- the array of lists begins with the empty one
+first_zero : (lists : List (List ℕ)) → slice_get lists 0 ≡ Some [] → slice_get (flat_map laid lists) 0 ≡ Some (pos 0)
+first_zero [] e = absurd cc
+first_zero (list ∷ lists) e = let same : list ≡ [] = some_same list [] e in ap (λ (w : List ℕ). Some (pos (length w))) same
+
+module _ (machine : List ℕ) (names lists : List (List ℕ)) (keys numbers : List ℤ) (line : IsLine machine names lists keys numbers) where
   abbrev a : Arrays
-  a = line_arrays machine cs names
+  a = line_arrays machine names lists keys numbers
 
-  states_are : states a ≡ length cs + 2
-  states_are = filled_length (length cs + 2) offset
+  states_are : states a ≡ length keys + 2
+  states_are = filled_length (length keys + 2) offset
 
-  width_is : (i : ℕ) → i < length cs + 2 → keys_of a i ≡ Some (single (length cs) i)
-  width_is i h = (λ j. plus (filled_get (length cs + 2) (single (length cs)) i h j) (plus (filled_get (length cs + 2) (λ i. pos 0) i h j) (filled_get (length cs + 2) (λ i. pos 0) i h j))) ∙ ap Some (+ℤ_idr (single (length cs) i))
+  width_is : (i : ℕ) → i < length keys + 2 → keys_of a i ≡ Some (single (length keys) i)
+  width_is i h = (λ j. plus (filled_get (length keys + 2) (single (length keys)) i h j) (plus (filled_get (length keys + 2) (λ i. pos 0) i h j) (filled_get (length keys + 2) (λ i. pos 0) i h j))) ∙ ap Some (+ℤ_idr (single (length keys) i))
 
-  cell_width_is : (i : ℕ) → i < length cs + 2 → cells_of a i ≡ Some (single (length cs) i)
-  cell_width_is i h = (λ j. plus (filled_get (length cs + 2) (single (length cs)) i h j) (filled_get (length cs + 2) (λ i. pos 0) i h j)) ∙ ap Some (+ℤ_idr (single (length cs) i))
+  cell_width_is : (i : ℕ) → i < length keys + 2 → cells_of a i ≡ Some (single (length keys) i)
+  cell_width_is i h = (λ j. plus (filled_get (length keys + 2) (single (length keys)) i h j) (filled_get (length keys + 2) (λ i. pos 0) i h j)) ∙ ap Some (+ℤ_idr (single (length keys) i))
 
   -- of widths that are those of the states
-  sums : (width : ℕ → Option ℤ) → ((i : ℕ) → i < length cs + 2 → width i ≡ Some (single (length cs) i)) → (i : ℕ) → i ≤ length cs + 1 → sum_before width i ≡ Some (offset i)
+  sums : (width : ℕ → Option ℤ) → ((i : ℕ) → i < length keys + 2 → width i ≡ Some (single (length keys) i)) → (i : ℕ) → i ≤ length keys + 1 → sum_before width i ≡ Some (offset i)
   unfolding sum_before
   sums width w zero h = refl
-  sums width w (suc i) h = (λ j. plus (sums width w i (omega (arith, h)) j) (w i (omega (arith, h)) j)) ∙ ap Some (offset_next (length cs) i (omega (arith, h)))
+  sums width w (suc i) h = (λ j. plus (sums width w i (omega (arith, h)) j) (w i (omega (arith, h)) j)) ∙ ap Some (offset_next (length keys) i (omega (arith, h)))
 
-  whole : (width : ℕ → Option ℤ) → ((i : ℕ) → i < length cs + 2 → width i ≡ Some (single (length cs) i)) → sum_before width (states a) ≡ Some (pos (length cs))
+  whole : (width : ℕ → Option ℤ) → ((i : ℕ) → i < length keys + 2 → width i ≡ Some (single (length keys) i)) → sum_before width (states a) ≡ Some (pos (length keys))
   unfolding sum_before
   whole width w =
-      let e : states a ≡ suc (length cs + 1) = omega (arith, states_are) in
-      ap (sum_before width) e ∙ (λ j. plus (sums width w (length cs + 1) (omega arith) j) (w (length cs + 1) (omega arith) j))
-      ∙ (let f : length cs + 1 - 1 ≡ length cs = omega arith in ap Some (ap (λ w. offset (length cs + 1) +ℤ w) (single_last (length cs)) ∙ +ℤ_idr (offset (length cs + 1)) ∙ ap pos f))
+      let e : states a ≡ suc (length keys + 1) = omega (arith, states_are) in
+      ap (sum_before width) e ∙ (λ j. plus (sums width w (length keys + 1) (omega arith) j) (w (length keys + 1) (omega arith) j))
+      ∙ (let f : length keys + 1 - 1 ≡ length keys = omega arith in ap Some (ap (λ w. offset (length keys + 1) +ℤ w) (single_last (length keys)) ∙ +ℤ_idr (offset (length keys + 1)) ∙ ap pos f))
 
-  keys_are : keys_end a ≡ Some (pos (length cs))
+  keys_are : keys_end a ≡ Some (pos (length keys))
   keys_are = whole (keys_of a) width_is
 
-  cells_are : cells_end a ≡ Some (pos (length cs))
+  cells_are : cells_end a ≡ Some (pos (length keys))
   cells_are = whole (cells_of a) cell_width_is
 
-  entry_width : (i : ℕ) → i < length cs + 1 → entries_of a i ≡ Some (pos 1)
+  entry_width : (i : ℕ) → i < length keys + 1 → entries_of a i ≡ Some (pos 1)
   entry_width i h =
       let none : count_ones 0 ≡ 0 = omega (arith, ones_le_self 0) in
-      ap (option_map (λ asks. pos (2 ^ count_ones (natural asks)))) (filled_get (length cs + 1) (λ i. pos 0) i h) ∙ ap (λ k. Some (pos (2 ^ k))) none
+      ap (option_map (λ asks. pos (2 ^ count_ones (natural asks)))) (filled_get (length keys + 1) (λ i. pos 0) i h) ∙ ap (λ k. Some (pos (2 ^ k))) none
 
-  entry_sums : (i : ℕ) → i ≤ length cs + 1 → sum_before (entries_of a) i ≡ Some (pos i)
+  entry_sums : (i : ℕ) → i ≤ length keys + 1 → sum_before (entries_of a) i ≡ Some (pos i)
   unfolding sum_before
   entry_sums zero h = refl
   entry_sums (suc i) h = (λ j. plus (entry_sums i (omega (arith, h)) j) (entry_width i (omega (arith, h)) j)) ∙ ap Some (pos-+ℤ-pos i 1 ∙ (let e : i + 1 ≡ suc i = omega arith in ap pos e))
 
-  entries_are : entries_end a ≡ Some (pos (length cs))
-  entries_are = ap (option_and_then (λ cells. sum_before (entries_of a) (natural cells))) cells_are ∙ entry_sums (length cs) (omega arith)
+  entries_are : entries_end a ≡ Some (pos (length keys))
+  entries_are = ap (option_and_then (λ cells. sum_before (entries_of a) (natural cells))) cells_are ∙ entry_sums (length keys) (omega arith)
 
   -- ---- each array
 
@@ -211,27 +199,27 @@ module _ (machine cs : List ℕ) (names : List (List ℕ)) (line : IsLine machin
   in_order m i f P h = if_at (filled m f) i P (λ x e. let w = filled_is m f i x e in subst P (sym w.1) (h w.0))
 
   key_offsets_right : FirstWrong a the.KeyOffsets None
-  key_offsets_right = rights a the.KeyOffsets (length cs + 2) states_are
-      (let e : max 2 (min 2147483647 (length (filled (length cs + 2) offset))) ≡ length cs + 2 = omega (arith, filled_length (length cs + 2) offset, line.few) in e)
-      (λ i h. in_order (length cs + 2) i offset (IsSum (keys_of a) i) (λ w. subst (λ o. IfSome o (λ sum. offset i ≡ sum)) (sym (sums (keys_of a) width_is i (omega (arith, h)))) refl))
+  key_offsets_right = rights a the.KeyOffsets (length keys + 2) states_are
+      (let e : max 2 (min 2147483647 (length (filled (length keys + 2) offset))) ≡ length keys + 2 = omega (arith, filled_length (length keys + 2) offset, line.few) in e)
+      (λ i h. in_order (length keys + 2) i offset (IsSum (keys_of a) i) (λ w. subst (λ o. IfSome o (λ sum. offset i ≡ sum)) (sym (sums (keys_of a) width_is i (omega (arith, h)))) refl))
 
   cell_offsets_right : FirstWrong a the.CellOffsets None
-  cell_offsets_right = rights a the.CellOffsets (length cs + 2) states_are states_are
-      (λ i h. in_order (length cs + 2) i offset (IsSum (cells_of a) i) (λ w. subst (λ o. IfSome o (λ sum. offset i ≡ sum)) (sym (sums (cells_of a) cell_width_is i (omega (arith, h)))) refl))
+  cell_offsets_right = rights a the.CellOffsets (length keys + 2) states_are states_are
+      (λ i h. in_order (length keys + 2) i offset (IsSum (cells_of a) i) (λ w. subst (λ o. IfSome o (λ sum. offset i ≡ sum)) (sym (sums (cells_of a) cell_width_is i (omega (arith, h)))) refl))
 
   -- all states are plain
   never_kind : (s low high : ℕ) {P : Type 0} → 1 ≤ low → HasKind a s low high → P
-  never_kind s low high {P} h k = go (slice_get (zeros (length cs + 2)) s) (λ x e. (filled_is (length cs + 2) (λ i. pos 0) s x e).1) k
+  never_kind s low high {P} h k = go (slice_get (zeros (length keys + 2)) s) (λ x e. (filled_is (length keys + 2) (λ i. pos 0) s x e).1) k
     where
       go : (o : Option ℤ) → ((x : ℤ) → o ≡ Some x → x ≡ pos 0) → IsSomeAnd o (IsBetween low high) → P
       go None f k = absurd k
       go (Some x) f k = let b = subst (IsBetween low high) (f x refl) k in absurd (omega (arith, h, from_at_most low 0 b.0))
 
   single_lengths_right : FirstWrong a the.SingleLengths None
-  single_lengths_right = rights a the.SingleLengths (length cs + 2) (filled_length (length cs + 2) (single (length cs))) states_are
-      (λ i h. in_order (length cs + 2) i (single (length cs)) (LengthSays a i) (λ w. record {
-        positive = positive_of (single (length cs) i) (single_small (length cs) i);
-        error = λ e. ap (single (length cs)) e;
+  single_lengths_right = rights a the.SingleLengths (length keys + 2) (filled_length (length keys + 2) (single (length keys))) states_are
+      (λ i h. in_order (length keys + 2) i (single (length keys)) (LengthSays a i) (λ w. record {
+        positive = positive_of (single (length keys) i) (single_small (length keys) i);
+        error = λ e. ap (single (length keys)) e;
         closed = λ k. never_kind i 4 4 (omega arith) k;
       }))
     where
@@ -240,34 +228,34 @@ module _ (machine cs : List ℕ) (names : List (List ℕ)) (line : IsLine machin
       positive_of x (inr e) = subst (λ w. pos 0 ≤ℤ w) (sym e) (omega arith)
 
   range_lengths_right : FirstWrong a the.RangeLengths None
-  range_lengths_right = rights a the.RangeLengths (length cs + 2) (filled_length (length cs + 2) (λ i. pos 0)) states_are
-      (λ i h. zero_at (length cs + 2) i (LengthSays a i) (record { positive = omega arith; error = λ e. refl; closed = λ k. refl }))
+  range_lengths_right = rights a the.RangeLengths (length keys + 2) (filled_length (length keys + 2) (λ i. pos 0)) states_are
+      (λ i h. zero_at (length keys + 2) i (LengthSays a i) (record { positive = omega arith; error = λ e. refl; closed = λ k. refl }))
 
-  next_natural : natural (pos (length cs) +ℤ pos 1) ≡ length cs + 1
-  next_natural = ap natural (pos-+ℤ-pos (length cs) 1)
+  next_natural : natural (pos (length keys) +ℤ pos 1) ≡ length keys + 1
+  next_natural = ap natural (pos-+ℤ-pos (length keys) 1)
 
-  one_more_is : (end : Option ℤ) (m : ℕ) → end ≡ Some (pos (length cs)) → one_more end m ≡ length cs + 1
+  one_more_is : (end : Option ℤ) (m : ℕ) → end ≡ Some (pos (length keys)) → one_more end m ≡ length keys + 1
   one_more_is end m e = ap (λ o. one_more o m) e ∙ next_natural
 
-  closing_is : (end : Option ℤ) (place : ℕ) → end ≡ Some (pos (length cs)) → IsClosing end place → place ≡ length cs
-  closing_is end place e f = let s : pos (length cs) ≡ pos place = some_same (pos (length cs)) (pos place) (sym e ∙ f) in sym (ap natural s)
+  closing_is : (end : Option ℤ) (place : ℕ) → end ≡ Some (pos (length keys)) → IsClosing end place → place ≡ length keys
+  closing_is end place e f = let s : pos (length keys) ≡ pos place = some_same (pos (length keys)) (pos place) (sym e ∙ f) in sym (ap natural s)
 
   cell_asks_right : FirstWrong a the.CellAsks None
-  cell_asks_right = rights a the.CellAsks (length cs + 1) (filled_length (length cs + 1) (λ i. pos 0)) (one_more_is (cells_end a) (length (zeros (length cs + 1))) cells_are)
-      (λ i h. zero_at (length cs + 1) i (AskSays a i) (record { closing = λ e. refl; positive = omega arith; known = omega arith }))
+  cell_asks_right = rights a the.CellAsks (length keys + 1) (filled_length (length keys + 1) (λ i. pos 0)) (one_more_is (cells_end a) (length (zeros (length keys + 1))) cells_are)
+      (λ i h. zero_at (length keys + 1) i (AskSays a i) (record { closing = λ e. refl; positive = omega arith; known = omega arith }))
 
   cell_entries_right : FirstWrong a the.CellEntries None
-  cell_entries_right = rights a the.CellEntries (length cs + 1) (filled_length (length cs + 1) (before_end (length cs) (λ i. pos i))) (filled_length (length cs + 1) (λ i. pos 0))
-      (λ i h. in_order (length cs + 1) i (before_end (length cs) (λ i. pos i)) (CellEntrySays a i) (λ w. record {
-        closing = λ e. ap (before_end (length cs) (λ i. pos i)) (closing_is (cells_end a) i cells_are e) ∙ before_last (length cs) (λ i. pos i);
-        sum = λ inside. subst (λ o. IfSome o (λ sum. before_end (length cs) (λ i. pos i) i ≡ sum)) (sym (entry_sums i (omega (arith, h))))
-            (before_is (length cs) (λ i. pos i) i (less_of i h inside));
+  cell_entries_right = rights a the.CellEntries (length keys + 1) (filled_length (length keys + 1) (before_end (length keys) (λ i. pos i))) (filled_length (length keys + 1) (λ i. pos 0))
+      (λ i h. in_order (length keys + 1) i (before_end (length keys) (λ i. pos i)) (CellEntrySays a i) (λ w. record {
+        closing = λ e. ap (before_end (length keys) (λ i. pos i)) (closing_is (cells_end a) i cells_are e) ∙ before_last (length keys) (λ i. pos i);
+        sum = λ inside. subst (λ o. IfSome o (λ sum. before_end (length keys) (λ i. pos i) i ≡ sum)) (sym (entry_sums i (omega (arith, h))))
+            (before_is (length keys) (λ i. pos i) i (less_of i h inside));
       }))
     where
-      less_of : (i : ℕ) → i < length cs + 1 → (IsClosing (cells_end a) i → ⊥) → i < length cs
-      less_of i h inside = elim (nat_lt i (length cs)) as (λ b. nat_lt i (length cs) ≡ b → i < length cs) [
+      less_of : (i : ℕ) → i < length keys + 1 → (IsClosing (cells_end a) i → ⊥) → i < length keys
+      less_of i h inside = elim (nat_lt i (length keys)) as (λ b. nat_lt i (length keys) ≡ b → i < length keys) [
         | true ↦ λ e. grind (arith, nat_tests, e)
-        | false ↦ λ e. let same : i ≡ length cs = grind (arith, nat_tests, e, h) in absurd (inside (cells_are ∙ ap (λ w. Some (pos w)) (sym same)))
+        | false ↦ λ e. let same : i ≡ length keys = grind (arith, nat_tests, e, h) in absurd (inside (cells_are ∙ ap (λ w. Some (pos w)) (sym same)))
       ] refl
 
   -- a number of before_end, by where it stands
@@ -281,12 +269,12 @@ module _ (machine cs : List ℕ) (names : List (List ℕ)) (line : IsLine machin
   zero_state = (at_most_ℤ 0 0 (omega arith), below_ℤ 0 (states a) (omega (arith, states_are)))
 
   trans_targs_right : FirstWrong a the.TransTargs None
-  trans_targs_right = rights a the.TransTargs (length cs + 1) (filled_length (length cs + 1) (before_end (length cs) (λ i. pos (i + 2)))) (one_more_is (entries_end a) (length (filled (length cs + 1) (before_end (length cs) (λ i. pos (i + 2))))) entries_are)
-      (λ i h. in_order (length cs + 1) i (before_end (length cs) (λ i. pos (i + 2))) (TargetSays a i) (λ w. record {
-        closing = λ e. ap (before_end (length cs) (λ i. pos (i + 2))) (closing_is (entries_end a) i entries_are e) ∙ before_last (length cs) (λ i. pos (i + 2));
-        state = by_end (length cs) i (λ i. pos (i + 2)) (IsState a) zero_state (λ less. (at_most_ℤ 0 (i + 2) (omega arith), below_ℤ (i + 2) (states a) (omega (arith, less, states_are))));
+  trans_targs_right = rights a the.TransTargs (length keys + 1) (filled_length (length keys + 1) (before_end (length keys) (λ i. pos (i + 2)))) (one_more_is (entries_end a) (length (filled (length keys + 1) (before_end (length keys) (λ i. pos (i + 2))))) entries_are)
+      (λ i h. in_order (length keys + 1) i (before_end (length keys) (λ i. pos (i + 2))) (TargetSays a i) (λ w. record {
+        closing = λ e. ap (before_end (length keys) (λ i. pos (i + 2))) (closing_is (entries_end a) i entries_are e) ∙ before_last (length keys) (λ i. pos (i + 2));
+        state = by_end (length keys) i (λ i. pos (i + 2)) (IsState a) zero_state (λ less. (at_most_ℤ 0 (i + 2) (omega arith), below_ℤ (i + 2) (states a) (omega (arith, less, states_are))));
         kinds = λ s of_state. record {
-          plain = λ k. zero_at (length cs + 2) (natural (before_end (length cs) (λ i. pos (i + 2)) i)) (IsBetween 0 0) (omega arith, omega arith);
+          plain = λ k. zero_at (length keys + 2) (natural (before_end (length keys) (λ i. pos (i + 2)) i)) (IsBetween 0 0) (omega arith, omega arith);
           inner = λ k. never_kind s 1 3 (omega arith) k;
           home = λ k. never_kind s 1 3 (omega arith) k;
         };
@@ -295,30 +283,27 @@ module _ (machine cs : List ℕ) (names : List (List ℕ)) (line : IsLine machin
   zero_key : IsTrue (has_key Char (pos 0))
   zero_key = refl
 
-  char_key : (c : ℕ) → c < 128 → IsTrue (has_key Char (pos c))
-  char_key c h = let e : nat_le c 127 ≡ true = grind (arith, nat_tests, h) in e
+  keys_length : length (keys ++ pos 0 ∷ []) ≡ length keys + 1
+  keys_length = length-append keys (pos 0 ∷ [])
 
-  keys_length : length (map pos cs ++ pos 0 ∷ []) ≡ length cs + 1
-  keys_length = length-append (map pos cs) (pos 0 ∷ []) ∙ ap (λ w. w + 1) (length-map cs pos)
-
-  key_at : (i : ℕ) (x : ℤ) → slice_get (map pos cs ++ pos 0 ∷ []) i ≡ Some x → IsTrue (has_key Char x) × (i ≡ length cs → x ≡ pos 0)
-  key_at i x e = let r : ((i < length (map pos cs)) × (slice_get (map pos cs) i ≡ Some x)) ⊎ ((i ≡ length (map pos cs)) × (x ≡ pos 0)) = last_or_in (map pos cs) (pos 0) i x e in
+  key_at : (i : ℕ) (x : ℤ) → slice_get (keys ++ pos 0 ∷ []) i ≡ Some x → IsTrue (has_key Char x) × (i ≡ length keys → x ≡ pos 0)
+  key_at i x e = let r : ((i < length keys) × (slice_get keys i ≡ Some x)) ⊎ ((i ≡ length keys) × (x ≡ pos 0)) = last_or_in keys (pos 0) i x e in
       elim r [
-        | inl h ↦ (let k = key_from cs i x h.1 in subst (λ w. IsTrue (has_key Char w)) (sym k.2) (char_key k.0 (line.small i k.0 k.1)), λ at. absurd (omega (arith, h.0, length-map cs pos, at)))
+        | inl h ↦ (line.known i x h.1, λ at. absurd (omega (arith, h.0, at)))
         | inr h ↦ (subst (λ w. IsTrue (has_key Char w)) (sym h.1) zero_key, λ at. h.1)
       ]
 
   -- no state has a range
-  no_range : (s p : ℕ) {P : Type 0} → IsSomeAnd (slice_get (zeros (length cs + 2)) s) (λ ranges. pos p <ℤ (ranges +ℤ ranges)) → P
-  no_range s p {P} k = go (slice_get (zeros (length cs + 2)) s) (λ x e. (filled_is (length cs + 2) (λ i. pos 0) s x e).1) k
+  no_range : (s p : ℕ) {P : Type 0} → IsSomeAnd (slice_get (zeros (length keys + 2)) s) (λ ranges. pos p <ℤ (ranges +ℤ ranges)) → P
+  no_range s p {P} k = go (slice_get (zeros (length keys + 2)) s) (λ x e. (filled_is (length keys + 2) (λ i. pos 0) s x e).1) k
     where
       go : (o : Option ℤ) → ((x : ℤ) → o ≡ Some x → x ≡ pos 0) → IsSomeAnd o (λ ranges. pos p <ℤ (ranges +ℤ ranges)) → P
       go None f k = absurd k
       go (Some x) f k = let b : pos p <ℤ pos 0 = subst (λ w. pos p <ℤ (w +ℤ w)) (f x refl) k in absurd (omega (arith, from_below p 0 b))
 
   -- no state has a second single key
-  no_second : (s p : ℕ) {P : Type 0} → IsSomeAnd (slice_get (filled (length cs + 2) (single (length cs))) s) (λ singles. pos (p + 1) <ℤ singles) → P
-  no_second s p {P} k = go (slice_get (filled (length cs + 2) (single (length cs))) s) (λ x e. subst (λ w. (w ≡ pos 0) ⊎ (w ≡ pos 1)) (sym (filled_is (length cs + 2) (single (length cs)) s x e).1) (single_small (length cs) s)) k
+  no_second : (s p : ℕ) {P : Type 0} → IsSomeAnd (slice_get (filled (length keys + 2) (single (length keys))) s) (λ singles. pos (p + 1) <ℤ singles) → P
+  no_second s p {P} k = go (slice_get (filled (length keys + 2) (single (length keys))) s) (λ x e. subst (λ w. (w ≡ pos 0) ⊎ (w ≡ pos 1)) (sym (filled_is (length keys + 2) (single (length keys)) s x e).1) (single_small (length keys) s)) k
     where
       few : (x : ℤ) → (x ≡ pos 0) ⊎ (x ≡ pos 1) → pos (p + 1) <ℤ x → P
       few x (inl e) b = absurd (omega (arith, from_below (p + 1) 0 (subst (λ w. pos (p + 1) <ℤ w) e b)))
@@ -329,8 +314,8 @@ module _ (machine cs : List ℕ) (names : List (List ℕ)) (line : IsLine machin
       go (Some x) f k = few x (f x refl) k
 
   trans_keys_right : FirstWrong a the.TransKeys None
-  trans_keys_right = rights a the.TransKeys (length cs + 1) keys_length (one_more_is (keys_end a) (length (map pos cs ++ pos 0 ∷ [])) keys_are)
-      (λ i h. if_at (map pos cs ++ pos 0 ∷ []) i (KeySays a i) (λ x e. record {
+  trans_keys_right = rights a the.TransKeys (length keys + 1) keys_length (one_more_is (keys_end a) (length (keys ++ pos 0 ∷ [])) keys_are)
+      (λ i h. if_at (keys ++ pos 0 ∷ []) i (KeySays a i) (λ x e. record {
         closing = λ k. (key_at i x e).1 (closing_is (keys_end a) i keys_are k);
         single = λ s p k. (key_at i x e).0;
         ascends = λ s p k. no_second s p k.within;
@@ -341,59 +326,61 @@ module _ (machine cs : List ℕ) (names : List (List ℕ)) (line : IsLine machin
 
   -- ---- lists
 
-  -- the empty list, and the line's list
+  -- the empty list, and those of steps
   empty_list : IsList a.actions (pos 0)
-  unfolding left_at
-  empty_list = record { positive = at_most_ℤ 0 0 (omega arith); within = omega arith; begins = refl }
+  empty_list = record {
+    positive = at_most_ℤ 0 0 (omega arith);
+    within = slice_get_within a.actions 0 (pos 0) (first_zero lists line.empty);
+    begins = left_begin a.actions;
+  }
 
-  some_list : 0 < length names → IsList (pos 0 ∷ pos (length names) ∷ filled (length names) (λ i. pos (i + 1))) (pos 1)
-  unfolding left_at
-  some_list h = record { positive = at_most_ℤ 0 1 (omega arith); within = omega arith; begins = refl }
+  step_list : (n : ℤ) → (pos 0 ≤ℤ n) × ((list : List ℕ) × Begins (flat_map laid lists) (natural n) list) → IsList a.actions n
+  step_list n h = record { positive = h.0; within = h.1.1.within; begins = h.1.1.free }
 
-  only_list : IsList (pos 0 ∷ []) (pos 0)
-  unfolding left_at
-  only_list = record { positive = at_most_ℤ 0 0 (omega arith); within = omega arith; begins = refl }
+  numbers_length : length (numbers ++ pos 0 ∷ []) ≡ length keys + 1
+  numbers_length = length-append numbers (pos 0 ∷ []) ∙ ap (λ w. w + 1) line.as_many
 
-  step_list : IsList a.actions (list_number (length names))
-  step_list = elim (nat_eq (length names) 0) as (λ b. nat_eq (length names) 0 ≡ b → IsList (pos 0 ∷ cond b [] (pos (length names) ∷ filled (length names) (λ i. pos (i + 1)))) (cond b (pos 0) (pos 1))) [
-    | true ↦ λ e. only_list
-    | false ↦ λ e. some_list (grind (arith, nat_tests, e))
-  ] refl
-
-  trans_lists_right : FirstWrong a the.TransLists None
-  trans_lists_right = rights a the.TransLists (length cs + 1) (filled_length (length cs + 1) (before_end (length cs) (λ i. list_number (length names)))) (filled_length (length cs + 1) (before_end (length cs) (λ i. pos (i + 2))))
-      (λ i h. in_order (length cs + 1) i (before_end (length cs) (λ i. list_number (length names))) (StepListSays a i) (λ w. record {
-        closing = λ e. ap (before_end (length cs) (λ i. list_number (length names))) (closing_is (entries_end a) i entries_are e) ∙ before_last (length cs) (λ i. list_number (length names));
-        list = by_end (length cs) i (λ i. list_number (length names)) (IsList a.actions) empty_list (λ less. step_list);
-        stays = λ e. stay i h (some_same (before_end (length cs) (λ i. pos (i + 2)) i) (pos 0) (sym (filled_get (length cs + 1) (before_end (length cs) (λ i. pos (i + 2))) i h) ∙ e));
-      }))
-    where
-      stay : (i : ℕ) → i < length cs + 1 → before_end (length cs) (λ i. pos (i + 2)) i ≡ pos 0 → before_end (length cs) (λ i. list_number (length names)) i ≡ pos 0
-      stay i h = elim (nat_lt i (length cs)) as (λ b. cond b (pos (i + 2)) (pos 0) ≡ pos 0 → cond b (list_number (length names)) (pos 0) ≡ pos 0) [
-        | true ↦ λ e. absurd (let f : i + 2 ≡ 0 = ap natural e in omega (arith, f))
-        | false ↦ λ e. refl
+  number_at_step : (i : ℕ) (x : ℤ) → slice_get (numbers ++ pos 0 ∷ []) i ≡ Some x → IsList a.actions x × (i ≡ length keys → x ≡ pos 0)
+  number_at_step i x e = let r : ((i < length numbers) × (slice_get numbers i ≡ Some x)) ⊎ ((i ≡ length numbers) × (x ≡ pos 0)) = last_or_in numbers (pos 0) i x e in
+      elim r [
+        | inl h ↦ (step_list x (line.begun i x h.1), λ at. absurd (omega (arith, h.0, at, line.as_many)))
+        | inr h ↦ (subst (IsList a.actions) (sym h.1) empty_list, λ at. h.1)
       ]
 
-  zeros_right : (array : ArrayName) → has a array ≡ length (zeros (length cs + 2)) → due a array ≡ states a → ((i : ℕ) → i < length cs + 2 → Says a array i) → FirstWrong a array None
-  zeros_right array h d f = rights a array (length cs + 2) (h ∙ filled_length (length cs + 2) (λ i. pos 0)) (d ∙ states_are) f
+  trans_lists_right : FirstWrong a the.TransLists None
+  trans_lists_right = rights a the.TransLists (length keys + 1) numbers_length (filled_length (length keys + 1) (before_end (length keys) (λ i. pos (i + 2))))
+      (λ i h. if_at (numbers ++ pos 0 ∷ []) i (StepListSays a i) (λ x e. record {
+        closing = λ k. (number_at_step i x e).1 (closing_is (entries_end a) i entries_are k);
+        list = (number_at_step i x e).0;
+        stays = λ k. (number_at_step i x e).1 (at_end i h (some_same (before_end (length keys) (λ i. pos (i + 2)) i) (pos 0) (sym (filled_get (length keys + 1) (before_end (length keys) (λ i. pos (i + 2))) i h) ∙ k)));
+      }))
+    where
+      at_end : (i : ℕ) → i < length keys + 1 → before_end (length keys) (λ i. pos (i + 2)) i ≡ pos 0 → i ≡ length keys
+      at_end i h = elim (nat_lt i (length keys)) as (λ b. nat_lt i (length keys) ≡ b → cond b (pos (i + 2)) (pos 0) ≡ pos 0 → i ≡ length keys) [
+        | true ↦ λ e f. absurd (let g : i + 2 ≡ 0 = ap natural f in omega (arith, g))
+        | false ↦ λ e f. grind (arith, nat_tests, e, h)
+      ] refl
+
+  zeros_right : (array : ArrayName) → has a array ≡ length (zeros (length keys + 2)) → due a array ≡ states a → ((i : ℕ) → i < length keys + 2 → Says a array i) → FirstWrong a array None
+  zeros_right array h d f = rights a array (length keys + 2) (h ∙ filled_length (length keys + 2) (λ i. pos 0)) (d ∙ states_are) f
 
   from_lists_right : FirstWrong a the.FromLists None
-  from_lists_right = zeros_right the.FromLists refl refl (λ i h. zero_at (length cs + 2) i (ListSays a i) (record { list = empty_list; error = λ e. refl }))
+  from_lists_right = zeros_right the.FromLists refl refl (λ i h. zero_at (length keys + 2) i (ListSays a i) (record { list = empty_list; error = λ e. refl }))
 
   to_lists_right : FirstWrong a the.ToLists None
-  to_lists_right = zeros_right the.ToLists refl refl (λ i h. zero_at (length cs + 2) i (ListSays a i) (record { list = empty_list; error = λ e. refl }))
+  to_lists_right = zeros_right the.ToLists refl refl (λ i h. zero_at (length keys + 2) i (ListSays a i) (record { list = empty_list; error = λ e. refl }))
 
   eof_lists_right : FirstWrong a the.EofLists None
-  eof_lists_right = zeros_right the.EofLists refl refl (λ i h. zero_at (length cs + 2) i (EndListSays a i) (record { list = empty_list; error = λ e. refl; scanner = λ k. refl }))
+  eof_lists_right = zeros_right the.EofLists refl refl (λ i h. zero_at (length keys + 2) i (EndListSays a i) (record { list = empty_list; error = λ e. refl; scanner = λ k. refl }))
 
   error_lists_right : FirstWrong a the.ErrorLists None
-  error_lists_right = zeros_right the.ErrorLists refl refl (λ i h. zero_at (length cs + 2) i (EndListSays a i) (record { list = empty_list; error = λ e. refl; scanner = λ k. refl }))
+  error_lists_right = zeros_right the.ErrorLists refl refl (λ i h. zero_at (length keys + 2) i (EndListSays a i) (record { list = empty_list; error = λ e. refl; scanner = λ k. refl }))
 
   accept_lists_right : FirstWrong a the.AcceptLists None
-  accept_lists_right = zeros_right the.AcceptLists refl refl (λ i h. zero_at (length cs + 2) i (TokenListSays a i) (record { list = empty_list; error = λ e. refl; match = λ no. absurd (no refl) }))
+  accept_lists_right = zeros_right the.AcceptLists refl refl (λ i h. zero_at (length keys + 2) i (TokenListSays a i) (record { list = empty_list; error = λ e. refl; match = λ no. absurd (no refl) }))
 
   state_kinds_right : FirstWrong a the.StateKinds None
-  state_kinds_right = zeros_right the.StateKinds refl refl (λ i h. zero_at (length cs + 2) i (KindSays a i) (record {
+  state_kinds_right = zeros_right the.StateKinds refl refl (λ i h. zero_at (length keys + 2) i (KindSays a i) (record {
     known = (at_most_ℤ 0 0 (omega arith), at_most_ℤ 0 4 (omega arith));
     error = λ e. refl;
     start = λ e. absurd (let f : 0 ≡ 1 = ap natural e in omega (arith, f));
@@ -401,7 +388,7 @@ module _ (machine cs : List ℕ) (names : List (List ℕ)) (line : IsLine machin
   }))
 
   homes_right : FirstWrong a the.Homes None
-  homes_right = zeros_right the.Homes refl refl (λ i h. zero_at (length cs + 2) i (HomeSays a i) (record { plain = λ k. refl; scanner = λ k. never_kind i 1 4 (omega arith) k }))
+  homes_right = zeros_right the.Homes refl refl (λ i h. zero_at (length keys + 2) i (HomeSays a i) (record { plain = λ k. refl; scanner = λ k. never_kind i 1 4 (omega arith) k }))
 
   -- ---- names and statements
 
@@ -448,54 +435,17 @@ module _ (machine cs : List ℕ) (names : List (List ℕ)) (line : IsLine machin
         few = omega arith;
       }))
 
-  one_length : (k : ℕ) → length (one_list k) ≡ k + 2
-  one_length k = omega (arith, filled_length k (λ i. pos (i + 1)))
-
-  -- the arrays with other lists
-  abbrev with_actions : List ℤ → Arrays
-  with_actions xs = record a { actions = xs }
-
-  actions_none : FirstWrong (with_actions (pos 0 ∷ [])) the.Actions None
-  actions_none = rights (with_actions (pos 0 ∷ [])) the.Actions 1 refl (omega (arith, left_none))
-      (λ i h. if_at (pos 0 ∷ []) i (ActionSays (with_actions (pos 0 ∷ [])) i) (λ x e. says i x h e))
-    where
-      says : (i : ℕ) (x : ℤ) → i < 1 → slice_get (pos 0 ∷ []) i ≡ Some x → ActionSays (with_actions (pos 0 ∷ [])) i x
-      says zero x h e = let is : pos 0 ≡ x = some_same (pos 0) x e in record {
-        empty = λ z. sym is;
-        count = λ z. subst (λ w. pos 0 ≤ℤ w) is (at_most_ℤ 0 0 (omega arith));
-        member = λ z. absurd (omega (arith, z, left_begin (pos 0 ∷ [])));
-      }
-      says (suc i) x h e = absurd (omega (arith, h))
-
-  actions_some : 0 < length names → FirstWrong (with_actions (one_list (length names))) the.Actions None
-  actions_some some = rights (with_actions (one_list (length names))) the.Actions (length names + 2) (one_length (length names))
-      (let e : length (one_list (length names)) ≡ suc (suc (length names)) = omega (arith, one_length (length names)) in
-      let all : left_at (one_list (length names)) (length (one_list (length names))) ≡ 0 = ap (left_at (one_list (length names))) e ∙ left_in (length names) (length names) some (omega arith) ∙ omega arith in
-      omega (arith, all, one_length (length names)))
-      (λ i h. if_at (one_list (length names)) i (ActionSays (with_actions (one_list (length names))) i) (λ x e. says i x h e))
-    where
-      says : (i : ℕ) (x : ℤ) → i < length names + 2 → slice_get (one_list (length names)) i ≡ Some x → ActionSays (with_actions (one_list (length names))) i x
-      says zero x h e = let is : pos 0 ≡ x = some_same (pos 0) x e in record {
-        empty = λ z. sym is;
-        count = λ z. subst (λ w. pos 0 ≤ℤ w) is (at_most_ℤ 0 0 (omega arith));
-        member = λ z. absurd (omega (arith, z, left_begin (one_list (length names))));
-      }
-      says (suc zero) x h e = let is : pos (length names) ≡ x = some_same (pos (length names)) x e in record {
-        empty = λ z. absurd (omega (arith, z));
-        count = λ z. subst (λ w. pos 0 ≤ℤ w) is (at_most_ℤ 0 (length names) (omega arith));
-        member = λ z. absurd (omega (arith, z, left_first (length names)));
-      }
-      says (suc (suc i)) x h e = let w = filled_is (length names) (λ i. pos (i + 1)) i x e in record {
-        empty = λ z. absurd (omega (arith, z));
-        count = λ z. absurd (omega (arith, z, w.0, left_in (length names) i some (omega (arith, w.0))));
-        member = λ z. subst (IsAction a) (sym w.1) (at_most_ℤ 1 (i + 1) (omega arith), below_ℤ (i + 1) (suc (length names)) (omega (arith, w.0)));
-      }
-
   actions_right : FirstWrong a the.Actions None
-  actions_right = elim (nat_eq (length names) 0) as (λ b. nat_eq (length names) 0 ≡ b → FirstWrong (with_actions (pos 0 ∷ cond b [] (pos (length names) ∷ filled (length names) (λ i. pos (i + 1))))) the.Actions None) [
-    | true ↦ λ e. actions_none
-    | false ↦ λ e. actions_some (grind (arith, nat_tests, e))
-  ] refl
+  actions_right = rights a the.Actions (length a.actions) refl
+      (let all : left_at a.actions (length a.actions) ≡ 0 = end_free a.actions 0 lists (whole_tiled lists) (omega arith) in
+      let some : 0 < length a.actions = slice_get_within a.actions 0 (pos 0) (first_zero lists line.empty) in
+      omega (arith, all, some))
+      (λ i h. if_at a.actions i (ActionSays a i) (λ x e.
+      let says = each_says a.actions (IsAction a) 0 lists (whole_tiled lists) line.members i x (omega arith) e in
+      record { empty = λ z. first_is x (ap (slice_get a.actions) (sym z) ∙ e); count = says.count; member = says.member }))
+    where
+      first_is : (x : ℤ) → slice_get a.actions 0 ≡ Some x → x ≡ pos 0
+      first_is x e = some_same x (pos 0) (sym e ∙ first_zero lists line.empty)
 
   -- ---- elements that stand written out
 
@@ -555,7 +505,7 @@ module _ (machine cs : List ℕ) (names : List (List ℕ)) (line : IsLine machin
           name = line.named;
           start = refl;
           alphabet = (at_most_ℤ 0 0 (omega arith), at_most_ℤ 0 1 (omega arith));
-          first_final = (at_most_ℤ 1 (length cs + 1) (omega arith), at_most_ℤ (length cs + 1) (states a) (omega (arith, states_are)));
+          first_final = (at_most_ℤ 1 (length keys + 1) (omega arith), at_most_ℤ (length keys + 1) (states a) (omega (arith, states_are)));
         };
         state_is = λ z. absurd (omega (arith, z));
         alive = λ z. absurd (omega (arith, z));
@@ -566,7 +516,7 @@ module _ (machine cs : List ℕ) (names : List (List ℕ)) (line : IsLine machin
         head = λ e. absurd (omega (arith, e));
         state_is = λ z. (at_most_ℤ 0 1 (omega arith), below_ℤ 1 (states a) (omega (arith, states_are)));
         alive = λ z e. let f : 1 ≡ 0 = ap natural e in omega (arith, f);
-        kind = λ z. zero_at (length cs + 2) 1 (IsBetween 0 1) (at_most_ℤ 0 0 (omega arith), at_most_ℤ 0 1 (omega arith));
+        kind = λ z. zero_at (length keys + 2) 1 (IsBetween 0 1) (at_most_ℤ 0 0 (omega arith), at_most_ℤ 0 1 (omega arith));
       }
       says (suc (suc i)) h = absurd (omega (arith, h))
 

@@ -8,3 +8,5 @@ pub mod LineTwin
 pub mod Lines
 pub mod Places
 pub mod SourceTwin
+pub mod Terms
+pub mod Tiles

@@ -1,20 +1,19 @@
 -- A line as a specification, and as a machine of numbered states.
-use Rattle.std.specs.Prelude.{◌≡◌, ℕ, zero, suc, ◌+◌, ◌-◌, ◌≤◌, false, List, [], ◌∷◌, length, map, Option, Some, None, codes, slice_get, is_some, true}
+use Rattle.std.specs.Prelude.{◌≡◌, ℕ, zero, suc, ◌+◌, ◌≤◌, false, List, [], ◌∷◌, map, Some, None, codes}
 use Rattle.std.specs.Ordering.{nat_cmp}
-use Rattle.std.specs.List.{AllByRecursion}
 use Rattle.rl_types.specs.declared.alphabet.Alphabet.TheVariants.{Char}
-use Rattle.rl_labels.specs.declared.carry.Carry.{Carry}
 use Rattle.rl_labels.specs.Carries.{no_carry}
 use Rattle.rl_automata.specs.Auto.{Auto}
+use Rattle.rl_automata.specs.Nodes.{Node}
 use Rattle.rl_model.specs.Parts.{Part, EntryState}
 use Rattle.rl_model.specs.Specification.{Plain, Specification}
-use Rattle.rl_line.proofs.LineAutomaton.{line_auto, line_tree}
+use Rattle.rl_line.proofs.LineAutomaton.{Edge, line_auto}
 
--- the one entry `main` with the line's expression, over actions that do nothing
-abbrev pub line_specification : List (List ℕ) → List ℕ → List ℕ → Specification
-line_specification names cs labels = record {
+-- the one entry `main` with this expression, over actions that do nothing
+abbrev pub line_specification : List (List ℕ) → Node → Specification
+line_specification names root = record {
   alphabet = Char;
-  entries = record { name = codes "main"; root = Plain (line_tree cs labels) } ∷ [];
+  entries = record { name = codes "main"; root = Plain root } ∷ [];
   actions = map (λ name. record { name = name; statements = [] }) names;
   conditions = [];
 }
@@ -28,16 +27,12 @@ abbrev pub dead_auto : Auto ℕ
 dead_auto = record { order = nat_cmp; start = 0; step = λ i l. None; final = λ i. false; out = λ i. no_carry; marks = λ i k. []; asked = λ i k. 0 }
 
 -- the first entry is the line
-abbrev pub line_part : List ℕ → Carry → ℕ → Part ℕ
-line_part cs x zero = plain_part dead_auto
-line_part cs x (suc zero) = plain_part (line_auto cs x)
-line_part cs x (suc (suc e)) = plain_part dead_auto
+abbrev pub line_part : List Edge → ℕ → Part ℕ
+line_part edges zero = plain_part dead_auto
+line_part edges (suc zero) = plain_part (line_auto edges)
+line_part edges (suc (suc e)) = plain_part dead_auto
 
 -- Error is state 0, and a position of the line the state one above it
 abbrev pub AtPosition : ℕ → EntryState (λ e. ℕ) → ℕ → Type 0
 AtPosition n None p = p ≡ 0
 AtPosition n (Some (e, s)) p = (e ≡ 1) × (s ≤ n) × (p ≡ s + 1)
-
--- each label is the number of an action
-abbrev pub AreActions : List (List ℕ) → List ℕ → Type 0
-AreActions names labels = AllByRecursion (λ a. (1 ≤ a) × (a ≤ length names)) labels

@@ -1,7 +1,7 @@
 -- The numbers of a line's actions.
 use Rattle.std.proofs.lemmas.Bool.Decides.{nat_tests}
-use Rattle.std.proofs.Common.{map, ◌≡◌, ◌≢◌, ℕ, zero, suc, ◌+◌, ◌-◌, ◌<◌, ◌≤◌, ℤ, pos, Bool, true, false, cond, not, nat_eq, List, [], ◌∷◌, ◌++◌, length, take, drop, Option, Some, None, slice_get, refl, sym, ◌∙◌, ap, subst, arith, inl, inr}
-use Rattle.std.specs.List.{AllByRecursion, filter, range_with_len}
+use Rattle.std.proofs.Common.{map, ◌≡◌, ◌≢◌, ℕ, suc, ◌+◌, ◌≤◌, Bool, true, false, cond, not, nat_eq, List, [], ◌∷◌, ◌++◌, length, Some, slice_get, refl, ◌∙◌, ap, subst, arith}
+use Rattle.std.specs.List.{AllByRecursion, filter}
 use Rattle.rl_labels.specs.Labels.{without}
 use Rattle.rl_line.specs.LineArrays.{firsts}
 use Rattle.rl_line.specs.LineArrays.{place_in}
@@ -43,32 +43,6 @@ pub firsts_all : (P : ℕ → Type 0) (labels : List ℕ) → AllByRecursion P l
 firsts_all P [] h = tt
 firsts_all P (a ∷ labels) h = (h.0, all_filter P (λ b. not (nat_eq b a)) (firsts labels) (firsts_all P labels h.1))
 
-place_here : (a : ℕ) (bs : List ℕ) → place_in (a ∷ bs) a ≡ 1
-place_here a bs = let e : nat_eq a a ≡ true = grind (arith, nat_tests) in λ i. cond (e i) 1 (place_in bs a + 1)
-
-place_behind : (a b : ℕ) (bs : List ℕ) → b ≢ a → place_in (a ∷ bs) b ≡ place_in bs b + 1
-place_behind a b bs h = let e : nat_eq b a ≡ false = grind (arith, nat_tests, h) in λ i. cond (e i) 1 (place_in bs b + 1)
-
--- the numbers of a list without copies are those from 1 on
-places_from : (a : ℕ) (bs cs : List ℕ) → NoneIs a cs → map (place_in (a ∷ bs)) cs ≡ map (λ c. place_in bs c + 1) cs
-places_from a bs [] h = refl
-places_from a bs (c ∷ cs) h = λ i. place_behind a c bs h.0 i ∷ places_from a bs cs h.1 i
-
-counted_from : (k n : ℕ) (cs : List ℕ) (bs : List ℕ) → map (place_in bs) cs ≡ range_with_len k n → map (λ c. place_in bs c + 1) cs ≡ range_with_len (k + 1) n
-counted_from k n cs bs e = mapped cs ∙ ap (map (λ c. c + 1)) e ∙ moved k n
-  where
-    mapped : (cs : List ℕ) → map (λ c. place_in bs c + 1) cs ≡ map (λ c. c + 1) (map (place_in bs) cs)
-    mapped [] = refl
-    mapped (c ∷ cs) = ap (λ w. (place_in bs c + 1) ∷ w) (mapped cs)
-
-    moved : (k n : ℕ) → map (λ c. c + 1) (range_with_len k n) ≡ range_with_len (k + 1) n
-    moved k zero = refl
-    moved k (suc n) = ap (λ w. (k + 1) ∷ w) (moved (k + 1) n)
-
-pub places : (bs : List ℕ) → Distinct bs → map (place_in bs) bs ≡ range_with_len 1 (length bs)
-places [] h = refl
-places (a ∷ bs) h = (λ i. place_here a bs i ∷ places_from a bs bs h.0 i) ∙ ap (λ w. 1 ∷ w) (counted_from 1 (length bs) bs bs (places bs h.1))
-
 -- what stands at an action's place
 pub found : {X : Type 0} (f : ℕ → X) (cs : List ℕ) (d : X) (a : ℕ) → (NoneIs a cs → ⊥) → slice_get (d ∷ map f cs) (place_in cs a) ≡ Some (f a)
 found f [] d a h = absurd (h tt)
@@ -83,5 +57,38 @@ pub members_in : (P : ℕ → Type 0) (bs cs : List ℕ) → ((a : ℕ) → (Non
 members_in P bs [] f g = tt
 members_in P bs (c ∷ cs) f g = (f c (λ none. (g c none).0 refl), members_in P bs cs f (λ a none. (g a none).1))
 
-pub each_found : {X : Type 0} (f : ℕ → X) (bs : List ℕ) (d : X) → AllByRecursion (λ a. slice_get (d ∷ map f bs) (place_in bs a) ≡ Some (f a)) bs
-each_found f bs d = members_in (λ a. slice_get (d ∷ map f bs) (place_in bs a) ≡ Some (f a)) bs bs (λ a h. found f bs d a h) (λ a none. none)
+-- what is in the list of first copies is in the list, and the other way round
+pub none_firsts : (a : ℕ) (xs : List ℕ) → NoneIs a xs → NoneIs a (firsts xs)
+none_firsts a [] h = tt
+none_firsts a (x ∷ xs) h = (h.0, none_filter a (λ b. not (nat_eq b x)) (firsts xs) (none_firsts a xs h.1))
+
+none_with : (a x : ℕ) (ys : List ℕ) → x ≢ a → NoneIs a (without x ys) → NoneIs a ys
+none_with a x [] ne h = tt
+none_with a x (y ∷ ys) ne h = (elim (nat_eq y x) as (λ b. nat_eq y x ≡ b → NoneIs a (cond (not b) (y ∷ without x ys) (without x ys)) → NoneIs a (y ∷ ys)) [
+  | true ↦ λ e g. let same : x ≡ y = grind (arith, nat_tests, e) in (subst (λ w. w ≢ a) same ne, none_with a x ys ne g)
+  | false ↦ λ e g. (g.0, none_with a x ys ne g.1)
+]) refl h
+
+pub none_from_firsts : (a : ℕ) (xs : List ℕ) → NoneIs a (firsts xs) → NoneIs a xs
+none_from_firsts a [] h = tt
+none_from_firsts a (x ∷ xs) h = (h.0, none_from_firsts a xs (none_with a x (firsts xs) h.0 h.1))
+
+pub none_left : (a : ℕ) (xs ys : List ℕ) → NoneIs a (xs ++ ys) → NoneIs a xs
+none_left a [] ys h = tt
+none_left a (x ∷ xs) ys h = (h.0, none_left a xs ys h.1)
+
+pub none_right : (a : ℕ) (xs ys : List ℕ) → NoneIs a (xs ++ ys) → NoneIs a ys
+none_right a [] ys h = h
+none_right a (x ∷ xs) ys h = none_right a xs ys h.1
+
+-- places are numbers from 1 to the length
+pub place_from : (cs : List ℕ) (a : ℕ) → 1 ≤ place_in cs a
+place_from [] a = omega arith
+place_from (c ∷ cs) a = elim (nat_eq a c) as (λ b. 1 ≤ cond b 1 (place_in cs a + 1)) [ true ↦ omega arith | false ↦ omega arith ]
+
+pub place_to : (cs : List ℕ) (a : ℕ) → (NoneIs a cs → ⊥) → place_in cs a ≤ length cs
+place_to [] a h = absurd (h tt)
+place_to (c ∷ cs) a h = elim (nat_eq a c) as (λ b. nat_eq a c ≡ b → cond b 1 (place_in cs a + 1) ≤ length (c ∷ cs)) [
+  | true ↦ λ e. omega arith
+  | false ↦ λ e. let n : c ≢ a = grind (arith, nat_tests, e) in let less = place_to cs a (λ k. h (n, k)) in omega (arith, less)
+] refl

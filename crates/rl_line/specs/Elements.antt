@@ -1,8 +1,8 @@
 -- What an array of a line has at an index.
 use Rattle.std.specs.Prelude.{ℕ, ◌+◌, ◌==◌, ℤ, pos, if◌then◌else◌}
 use Rattle.rl_line.specs.declared.elements.Element.{Element}
-use Rattle.rl_line.specs.declared.elements.Element.TheVariants.{Zero, Offset, Single, Entry, Target, StepList, Member, FirstStatement}
-use Rattle.rl_line.specs.LineArrays.{offset, single, before_end, list_number}
+use Rattle.rl_line.specs.declared.elements.Element.TheVariants.{Zero, Offset, Single, Entry, Target, FirstStatement}
+use Rattle.rl_line.specs.LineArrays.{offset, single, before_end}
 
 abbrev pub value_of : Element → ℕ → ℤ
 value_of Zero i = pos 0
@@ -10,6 +10,4 @@ value_of Offset i = offset i
 value_of (Single n) i = single n i
 value_of (Entry n) i = before_end n (λ i. pos i) i
 value_of (Target n) i = before_end n (λ i. pos (i + 2)) i
-value_of (StepList n k) i = before_end n (λ i. list_number k) i
-value_of Member i = pos (i + 1)
 value_of FirstStatement i = if i == 0 then pos 0 else pos 1

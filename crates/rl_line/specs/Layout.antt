@@ -1,5 +1,6 @@
 -- The arrays of a line in groups.
-use Rattle.std.specs.Prelude.{ℕ, ◌+◌, ◌==◌, pos, List, [], ◌∷◌, ◌++◌, map, length, codes, if◌then◌else◌}
+use Rattle.std.specs.Prelude.{ℕ, ◌+◌, ◌==◌, ℤ, pos, List, [], ◌∷◌, ◌++◌, codes, if◌then◌else◌}
+use Rattle.std.specs.List.{flat_map}
 use Rattle.rl_arrays.specs.declared.arrays.Arrays.{Arrays}
 use Rattle.rl_line.specs.declared.layout.Ends.{Ends}
 use Rattle.rl_line.specs.declared.layout.Names.{Names}
@@ -7,30 +8,32 @@ use Rattle.rl_line.specs.declared.layout.Keys.{Keys}
 use Rattle.rl_line.specs.declared.layout.Cells.{Cells}
 use Rattle.rl_line.specs.declared.layout.States.{States}
 use Rattle.rl_line.specs.declared.layout.Statements.{Statements}
-use Rattle.rl_line.specs.LineArrays.{filled, zeros, offset, single, before_end, list_elements, list_number}
+use Rattle.rl_line.specs.LineArrays.{filled, zeros, offset, single, before_end, laid}
 
--- so many characters, and so many actions in the list
-abbrev pub line_ends : ℕ → ℕ → Ends
-line_ends n k = record { first_final = pos (n + 1); actions = pos 0 ∷ list_elements k; entry_states = pos 0 ∷ pos 1 ∷ [] }
+-- of n characters, with these lists of actions
+abbrev pub line_ends : ℕ → List (List ℕ) → Ends
+line_ends n lists = record { first_final = pos (n + 1); actions = flat_map laid lists; entry_states = pos 0 ∷ pos 1 ∷ [] }
 
 abbrev pub line_names : List ℕ → List (List ℕ) → Names
 line_names machine names = record { machine = machine; actions = [] ∷ names; conditions = [] ∷ []; entries = [] ∷ codes "main" ∷ [] }
 
-abbrev pub line_keys : List ℕ → Keys
-line_keys cs = record {
-  offsets = filled (length cs + 2) offset;
-  keys = map pos cs ++ pos 0 ∷ [];
-  singles = filled (length cs + 2) (single (length cs));
-  ranges = zeros (length cs + 2);
+-- of n characters, with these keys
+abbrev pub line_keys : ℕ → List ℤ → Keys
+line_keys n keys = record {
+  offsets = filled (n + 2) offset;
+  keys = keys ++ pos 0 ∷ [];
+  singles = filled (n + 2) (single n);
+  ranges = zeros (n + 2);
 }
 
-abbrev pub line_cells : ℕ → ℕ → Cells
-line_cells n k = record {
+-- of n characters, with these numbers of lists
+abbrev pub line_cells : ℕ → List ℤ → Cells
+line_cells n numbers = record {
   offsets = filled (n + 2) offset;
   asks = zeros (n + 1);
   entries = filled (n + 1) (before_end n (λ i. pos i));
   targets = filled (n + 1) (before_end n (λ i. pos (i + 2)));
-  lists = filled (n + 1) (before_end n (λ i. list_number k));
+  lists = numbers ++ pos 0 ∷ [];
 }
 
 abbrev pub line_states : ℕ → States

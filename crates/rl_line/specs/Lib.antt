@@ -1,4 +1,5 @@
 pub mod Elements
 pub mod Layout
 pub mod LineArrays
+pub mod Parts
 pub mod SourceArrays

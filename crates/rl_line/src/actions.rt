@@ -1,10 +1,12 @@
-// The actions that stand in a line's list.
+// The actions that stand in a line's lists.
 ghost use Rattle.std.specs.Prelude.{◌≡◌, ◌≤◌, map, length, IfOk};
+ghost use Rattle.rl_line.specs.SourceArrays.{all_labels, listed_actions};
 ghost use Rattle.rl_labels.specs.Labels.{without};
 ghost use Rattle.rl_types.specs.declared.numbers.ActionId.{ActionId};
 ghost use Rattle.rl_line.specs.LineArrays.{firsts, name_in, names_of};
 ghost use Rattle.rl_reading.specs.Rewriting.{action_numbers};
 
+use rl_reading::Term;
 use rl_types::{ActionId, Memory, Name};
 use std::alloc::Global;
 
@@ -28,6 +30,28 @@ pub(crate) fn first_labels(alloc: Global, labels: &[ActionId]) -> Result<Vec<u32
         }
     }
     Ok(found)
+}
+
+#[tactic(auto, using(crate::proofs::Filled::flat_more))]
+// The labels of all terms, in text order.
+fn all_labels(alloc: Global, terms: &[Term]) -> Result<Vec<ActionId>, Memory>
+    ensures { IfOk result (λ v. v.items ≡ all_labels terms.now) }
+{
+    let mut labels = Vec::new(alloc);
+    for term in terms {
+        if labels.extend_from_slice(term.labels.as_slice()).is_err() {
+            return Err(Memory);
+        }
+    }
+    Ok(labels)
+}
+
+/// The actions that stand in lists, in order of appearance, each once.
+pub(crate) fn listed_actions(alloc: Global, terms: &[Term]) -> Result<Vec<u32>, Memory>
+    ensures { IfOk result (λ v. v.items ≡ listed_actions terms.now) }
+{
+    let labels = all_labels(alloc, terms)?;
+    first_labels(alloc, &labels)
 }
 
 /// A copy of a name.

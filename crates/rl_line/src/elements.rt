@@ -6,7 +6,7 @@ ghost use Rattle.rl_line.specs.Elements.{value_of};
 use rl_types::{List, Memory};
 use std::alloc::Global;
 
-/// What an array has at an index. `characters` is the number of characters, `listed` that of the actions in the list.
+/// What an array has at an index. `characters` is the number of characters.
 #[derive(Clone, Copy)]
 pub(crate) enum Element {
     Zero,
@@ -14,8 +14,6 @@ pub(crate) enum Element {
     Single { characters: usize },
     Entry { characters: usize },
     Target { characters: usize },
-    StepList { characters: usize, listed: usize },
-    Member,
     FirstStatement,
 }
 
@@ -29,10 +27,6 @@ fn value(element: Element, i: usize) -> i64
         Element::Single { characters } => { if i == 0 || characters < i { 0 } else { 1 } }
         Element::Entry { characters } => { if i < characters { i as i64 } else { 0 } }
         Element::Target { characters } => { if i < characters { (i + 2) as i64 } else { 0 } }
-        Element::StepList { characters, listed } => {
-            if i < characters && listed != 0 { 1 } else { 0 }
-        }
-        Element::Member => (i + 1) as i64,
         Element::FirstStatement => { if i == 0 { 0 } else { 1 } }
     }
 }

@@ -1,13 +1,16 @@
 // The arrays of a line.
-ghost use Rattle.std.specs.Prelude.{◌≡◌, ◌==◌, ◌≤◌, ◌+◌, ◌∷◌, [], ◌++◌, map, length, pos, codes, IfOk, if◌then◌else◌};
-ghost use Rattle.rl_line.specs.LineArrays.{filled, zeros, offset, single, before_end, list_elements, list_number, line_arrays};
+ghost use Rattle.std.specs.Prelude.{◌≡◌, ◌≤◌, ◌+◌, ◌∷◌, [], ◌++◌, length, pos, codes, IfOk};
+ghost use Rattle.std.specs.List.{flat_map};
+ghost use Rattle.rl_line.specs.LineArrays.{laid, line_arrays};
 ghost use Rattle.rl_line.specs.Layout.{line_ends, line_keys, line_cells, line_states, line_statements, line_names, arrays_of};
 ghost use Rattle.rl_arrays.specs.Valid.{Valid};
 ghost use Rattle.rl_reading.specs.Form.{IsSource};
-ghost use Rattle.rl_line.specs.SourceArrays.{listed_names, source_arrays, HasNoStatements, WritesAsExpression};
+ghost use Rattle.rl_line.specs.SourceArrays.{source_arrays, HasNoStatements, WritesAsExpression};
 
-use crate::actions::{copy_name, first_labels, names_listed};
+use crate::actions::copy_name;
 use crate::elements::{Element, elements};
+use crate::line::{Line, line_of};
+use crate::lists::lay_lists;
 use rl_arrays::Arrays;
 use rl_reading::Source;
 use rl_types::{List, Memory, Name};
@@ -72,46 +75,23 @@ pub(crate) struct Statements {
     pub bases: List<i64>,
 }
 
-fn lay_actions(alloc: Global, listed: usize) -> Result<List<i64>, Memory>
-    requires { listed ≤ 2147483646 }
-    ensures { IfOk result (λ v. v ≡ pos 0 ∷ list_elements listed) }
+// The elements, and the closing 0.
+fn closed(elements: Vec<i64>) -> Result<List<i64>, Memory>
+    ensures { IfOk result (λ v. v ≡ elements.items ++ pos 0 ∷ []) }
 {
-    let mut items: List<i64> = elements(alloc, Element::Zero, 1)?;
-    if listed > 0 {
-        if items.push(listed as i64).is_err() {
-            return Err(Memory);
-        }
-        let members = elements(alloc, Element::Member, listed)?;
-        if items.append(members).is_err() {
-            return Err(Memory);
-        }
-    }
-    Ok(items)
-}
-
-// The characters as keys, and the closing 0.
-fn lay_characters(alloc: Global, characters: &[u8]) -> Result<List<i64>, Memory>
-    ensures { IfOk result (λ v. v ≡ map pos characters.now ++ pos 0 ∷ []) }
-{
-    let mut items = Vec::new(alloc);
-    for byte in characters {
-        if items.push(i64::from(*byte)).is_err() {
-            return Err(Memory);
-        }
-    }
+    let mut items = elements;
     if items.push(0).is_err() {
         return Err(Memory);
     }
     Ok(List::from_vec(items))
 }
 
-fn lay_keys(alloc: Global, characters: &[u8]) -> Result<Keys, Memory>
-    requires { length characters.now ≤ 1000 }
-    ensures { IfOk result (λ k. k ≡ line_keys characters.now) }
+fn lay_keys(alloc: Global, count: usize, keys: Vec<i64>) -> Result<Keys, Memory>
+    requires { count ≤ 2147483645 }
+    ensures { IfOk result (λ k. k ≡ line_keys count keys.items) }
 {
-    let count = characters.len();
     let offsets = elements(alloc, Element::Offset, count + 2)?;
-    let keys = lay_characters(alloc, characters)?;
+    let keys = closed(keys)?;
     let singles = elements(alloc, Element::Single { characters: count }, count + 2)?;
     let ranges = elements(alloc, Element::Zero, count + 2)?;
     Ok(Keys {
@@ -122,19 +102,15 @@ fn lay_keys(alloc: Global, characters: &[u8]) -> Result<Keys, Memory>
     })
 }
 
-fn lay_cells(alloc: Global, characters: usize, listed: usize) -> Result<Cells, Memory>
-    requires { characters ≤ 1000 }
-    ensures { IfOk result (λ c. c ≡ line_cells characters listed) }
+fn lay_cells(alloc: Global, characters: usize, numbers: Vec<i64>) -> Result<Cells, Memory>
+    requires { characters ≤ 2147483645 }
+    ensures { IfOk result (λ c. c ≡ line_cells characters numbers.items) }
 {
     let offsets = elements(alloc, Element::Offset, characters + 2)?;
     let asks = elements(alloc, Element::Zero, characters + 1)?;
     let entries = elements(alloc, Element::Entry { characters }, characters + 1)?;
     let targets = elements(alloc, Element::Target { characters }, characters + 1)?;
-    let lists = elements(
-        alloc,
-        Element::StepList { characters, listed },
-        characters + 1,
-    )?;
+    let lists = closed(numbers)?;
     Ok(Cells {
         offsets,
         asks,
@@ -145,7 +121,7 @@ fn lay_cells(alloc: Global, characters: usize, listed: usize) -> Result<Cells, M
 }
 
 fn lay_states(alloc: Global, states: usize) -> Result<States, Memory>
-    requires { states ≤ 1002 }
+    requires { states ≤ 2147483647 }
     ensures { IfOk result (λ s. s ≡ line_states states) }
 {
     Ok(States {
@@ -276,12 +252,11 @@ fn assemble(
     }
 }
 
-fn lay_ends(alloc: Global, characters: usize, listed: usize) -> Result<Ends, Memory>
-    requires characters { characters ≤ 1000 }
-    requires listed { listed ≤ 2147483646 }
-    ensures { IfOk result (λ e. e ≡ line_ends characters listed) }
+fn lay_ends(alloc: Global, characters: usize, lists: &[List<u32>]) -> Result<Ends, Memory>
+    requires { characters ≤ 2147483645 }
+    ensures { IfOk result (λ e. e ≡ line_ends characters lists.now) }
 {
-    let actions = lay_actions(alloc, listed)?;
+    let actions = lay_lists(alloc, lists)?;
     let entry_states = lay_entry_states(alloc)?;
     Ok(Ends {
         first_final: (characters + 1) as i64,
@@ -290,44 +265,32 @@ fn lay_ends(alloc: Global, characters: usize, listed: usize) -> Result<Ends, Mem
     })
 }
 
-// The arrays, with these actions in the line's list.
-fn lay_listed(
-    alloc: Global,
-    machine: &Name,
-    characters: &[u8],
-    names: Vec<Name>,
-) -> Result<Arrays, Memory>
-    requires characters { length characters.now ≤ 1000 }
-    requires names { length names.items ≤ 2147483646 }
-    ensures { IfOk result (λ a. a ≡ line_arrays machine.now characters.now names.items) }
+// The arrays of a line.
+fn lay_line(alloc: Global, machine: &Name, line: Line) -> Result<Arrays, Memory>
+    requires characters { length line.keys.items ≤ 2147483645 }
+    requires names { length line.names.items ≤ 2147483646 }
+    ensures { IfOk result (λ a. a ≡ line_arrays machine.now line.names.items line.lists.items line.keys.items line.numbers.items) }
 {
-    let count = characters.len();
-    let listed = names.len();
-    let ends = lay_ends(alloc, count, listed)?;
-    let keys = lay_keys(alloc, characters)?;
-    let cells = lay_cells(alloc, count, listed)?;
+    let Line {
+        names,
+        lists,
+        keys,
+        numbers,
+    } = line;
+    let count = keys.len();
+    let ends = lay_ends(alloc, count, &lists)?;
+    let statements = lay_statements(alloc, names.len())?;
+    let keys = lay_keys(alloc, count, keys)?;
+    let cells = lay_cells(alloc, count, numbers)?;
     let states = lay_states(alloc, count + 2)?;
-    let statements = lay_statements(alloc, listed)?;
     let names = lay_names(alloc, machine, names)?;
     Ok(assemble(ends, names, keys, cells, states, statements))
 }
 
-// The names of the actions in the list.
-fn listed_of(alloc: Global, source: &Source) -> Result<Vec<Name>, Memory>
-    ensures names { IfOk result (λ v. v.items ≡ listed_names source.now) }
-    ensures few { IfOk result (λ v. length v.items ≤ 2147483646) }
-{
-    let listed = first_labels(alloc, source.labels.as_slice())?;
-    let names = names_listed(alloc, source.actions.as_slice(), &listed)?;
-    if names.len() > 2147483646 {
-        return Err(Memory);
-    }
-    Ok(names)
-}
-
-/// The arrays of a source's machine: a state for Error, one for each position of the literal and one behind it. Each
-/// step calls the labels in order of appearance, each once. `Memory` may come at every call; it also comes where more
-/// actions stand in the list than arrays can number, 2,147,483,646.
+/// The arrays of a source's machine: a state for Error, one for each position of its characters and one behind them.
+/// The step over a character calls the labels of its term in order of appearance, each once. `Memory` may come at every
+/// call; it also comes where there are more than 2,147,483,646 actions in lists, or more than 2,147,483,645 characters,
+/// which is what arrays can number.
 pub fn lay_source(alloc: Global, source: &Source) -> Result<Arrays, Memory>
     requires { IsSource source.now }
     ensures arrays { IfOk result (λ a. a ≡ source_arrays source.now) }
@@ -337,7 +300,7 @@ pub fn lay_source(alloc: Global, source: &Source) -> Result<Arrays, Memory>
     // Run on a script, the arrays write what the expression of the source writes.
     ensures writes { IfOk result (WritesAsExpression source.now) }
 {
-    let names = listed_of(alloc, source)?;
-    let arrays = lay_listed(alloc, &source.machine, source.characters.as_slice(), names)?;
+    let line = line_of(alloc, source)?;
+    let arrays = lay_line(alloc, &source.machine, line)?;
     Ok(arrays)
 }

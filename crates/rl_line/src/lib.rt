@@ -5,6 +5,8 @@
 mod actions;
 mod elements;
 mod layout;
+mod line;
+mod lists;
 
 pub use layout::lay_source;
 

@@ -1,154 +1,344 @@
--- What tokens are made of, and what holds of every source that is read.
-use Rattle.std.proofs.Common.{◌≡◌, ◌≢◌, ℕ, zero, suc, ◌-◌, ◌<◌, Bool, true, false, eqb, List, [], ◌∷◌, ◌++◌, length, take, drop, get_or, map, Option, Some, None, inl, inr, refl, sym, ap, ◌∙◌, subst, arith}
-use Rattle.std.specs.Prelude.{◌&&◌, not, All, AllPairs, IsTrue}
-use Rattle.std.specs.List.{list_all, flat_map}
-use Rattle.std.proofs.lemmas.Bool.{cases_Bool, and_parts, false≢true}
-use Rattle.std.proofs.lemmas.Option.{slice_get_within}
+-- What holds of every source that is read.
+use Rattle.std.proofs.Common.{◌≡◌, ℕ, suc, ◌<◌, ◌≤◌, Bool, true, false, cond, List, [], ◌∷◌, ◌++◌, length, get_or, position, Option, Some, None, Result, Ok, Err, inl, inr, refl, sym, ap, ◌∙◌, subst, arith, length-append}
+use Rattle.std.specs.Prelude.{IsTrue, IfOk, AllPairs}
+use Rattle.std.specs.List.{All, flat_map, list_any}
+use Rattle.std.specs.Str.{bytes_eq}
+use Rattle.std.proofs.lemmas.List.Elements.{All-push}
+use Rattle.std.proofs.lemmas.List.Quantifiers.{position-Some}
+use Rattle.rl_types.specs.declared.faults.Fault.{Fault}
 use Rattle.rl_types.specs.declared.numbers.ActionId.{ActionId}
-use Rattle.rl_arrays.specs.Names.{is_word, is_name}
-use Rattle.rl_reading.specs.declared.source.Sentence.{Sentence}
+use Rattle.rl_types.specs.declared.numbers.Place.{Place}
+use Rattle.rl_arrays.specs.Names.{is_name}
+use Rattle.rl_grammar.specs.Grammar.{statement_text, mark}
+use Rattle.rl_grammar.specs.Lexeme.{Lexeme, lexemes, carried}
+use Rattle.rl_grammar.specs.Literals.{characters, inside, ends_as_it_begins}
+use Rattle.rl_grammar.specs.declared.read_fault.ReadFault.{ReadFault}
+use Rattle.rl_grammar.specs.declared.syntax.Action.{Action}
+use Rattle.rl_grammar.specs.declared.syntax.ActionUse.{ActionUse}
+use Rattle.rl_grammar.specs.declared.syntax.ActionUse.TheVariants as use_of
+use Rattle.rl_grammar.specs.declared.syntax.Concatenation.{Concatenation, out-Concatenation}
+use Rattle.rl_grammar.specs.declared.syntax.ConcatenationPart.{ConcatenationPart, out-ConcatenationPart}
+use Rattle.rl_grammar.specs.declared.syntax.ConcatenationSign.{ConcatenationSign}
+use Rattle.rl_grammar.specs.declared.syntax.ConcatenationSign.TheVariants as sign
+use Rattle.rl_grammar.specs.declared.syntax.Definition.{Definition}
+use Rattle.rl_grammar.specs.declared.syntax.Embedded.{Embedded, out-Embedded}
+use Rattle.rl_grammar.specs.declared.syntax.Embedding.{Embedding}
+use Rattle.rl_grammar.specs.declared.syntax.Embedding.TheVariants as embedding
+use Rattle.rl_grammar.specs.declared.syntax.Label.{Label}
+use Rattle.rl_grammar.specs.declared.syntax.Label.TheVariants as label
+use Rattle.rl_grammar.specs.declared.syntax.Machine.{Machine}
+use Rattle.rl_grammar.specs.declared.syntax.Negated.{out-Negated}
+use Rattle.rl_grammar.specs.declared.syntax.Negation.{Negation}
+use Rattle.rl_grammar.specs.declared.syntax.Operand.{out-Operand}
+use Rattle.rl_grammar.specs.declared.syntax.Operand.TheOpen as operand
+use Rattle.rl_grammar.specs.declared.syntax.Repeated.{Repeated, out-Repeated}
+use Rattle.rl_grammar.specs.declared.syntax.Repetition.{Repetition}
+use Rattle.rl_grammar.specs.declared.syntax.Statement.{Statement}
+use Rattle.rl_grammar.specs.declared.syntax.Statement.TheVariants as statement
+use Rattle.rl_grammar.specs.declared.syntax.Syntax.{Syntax}
+use Rattle.rl_grammar.specs.declared.syntax.TransitionSign.TheVariants as transition
+use Rattle.rl_grammar.specs.declared.syntax.Union.{Union, out-Union}
+use Rattle.rl_grammar.specs.declared.syntax.UnionPart.{UnionPart}
+use Rattle.rl_grammar.specs.declared.syntax.Word.{Word}
+use Rattle.rl_grammar.specs.declared.syntax.WriteKind.{WriteKind}
+use Rattle.rl_grammar.specs.declared.syntax.WriteKind.TheVariants as written
+use Rattle.rl_grammar.specs.declared.token.Token.{Token}
+use Rattle.rl_grammar.specs.declared.token.TokenKind.TheVariants as k
 use Rattle.rl_reading.specs.declared.source.Source.{Source}
-use Rattle.rl_reading.specs.declared.token.Token.{Token}
-use Rattle.rl_reading.specs.declared.token.Token.TheVariants as t
-use Rattle.rl_reading.specs.declared.token.Sign.{Sign}
-use Rattle.rl_reading.specs.declared.token.Sign.TheVariants as s
-use Rattle.rl_reading.specs.Parts.{behind_blanks}
-use Rattle.rl_reading.specs.Words.{begins, is_closed, in_word, in_literal, is_literal, inside, is_reserved}
-use Rattle.rl_reading.specs.Tokens.{token_of, sign_of, sign_token, kept_before, AreTokens}
-use Rattle.rl_reading.specs.Grammar.{IsName, IsLength, IsSentence, sentence_tokens, action_tokens, main_tokens, label_tokens, closing_tokens}
-use Rattle.rl_reading.specs.Names.{name_at, name_of, Resolves}
-use Rattle.rl_reading.specs.Form.{IsNumber, IsSource}
-use Rattle.rl_reading.specs.Reading.{Reads}
+use Rattle.rl_reading.specs.declared.source.Term.{Term}
+use Rattle.rl_reading.specs.Blocks.{AllTokens}
+use Rattle.rl_reading.specs.Codes.{steers}
+use Rattle.rl_reading.specs.Form.{IsNumber, IsTerm, IsSource}
+use Rattle.rl_reading.specs.Reading.{AreTrees, Reads}
+use Rattle.rl_reading.specs.Results.{and_then, each}
+use Rattle.rl_reading.specs.Terms.{Layer, not_yet, some_characters, literal_of, layer_of, operand_of, unnegated, negated_of, unrepeated, repeated_of, action_at, action_named, action_of, labelled_of, embedding_of, term, embedded_of, joined, part_of, concatenation_of, alone, terms_of}
+use Rattle.rl_reading.specs.Statements.{Said, nothing, with_machine, with_action, with_data, with_write, is_built, with_definition, with_statement, is_ready, said, all_said, statements_of, finished, source_of_said}
+use Rattle.rl_reading.proofs.NameLaws.{Differ, push_distinct}
+use Rattle.rl_reading.proofs.TokenForms.{option_cases, same_ok, err_ok}
+use Rattle.rl_reading.proofs.TokenLists.{all_more, all_none, file_holds}
 
--- a word is a word, and the characters of a literal are such
-abbrev IsMade : Token → Type 0
-IsMade (t.Word word) = is_word word ≡ true
-IsMade (t.Literal characters) = list_all in_literal characters ≡ true
-IsMade (t.Sign sign) = Unit {0}
+-- what is read on from a value gives a value only where there is one
+then_ok : {A B : Type 0} (r : Result A Fault) (next : A → Result B Fault) (y : B) → and_then r next ≡ Ok y → (x : A) × (r ≡ Ok x) × (next x ≡ Ok y)
+then_ok (Ok x) next y e = (x, refl, e)
+then_ok (Err f) next y e = absurd (err_ok f y e)
 
-abbrev AreMade : List Token → Type 0
-AreMade [] = Unit {0}
-AreMade (x ∷ xs) = IsMade x × AreMade xs
+-- a choice gives a value by its case
+if_ok : {A : Type 0} (c : Bool) (r s : Result A Fault) (P : Type 0) (y : A) → cond c r s ≡ Ok y → (c ≡ true → r ≡ Ok y → P) → (c ≡ false → s ≡ Ok y → P) → P
+if_ok true r s P y e f g = f refl e
+if_ok false r s P y e f g = g refl e
 
-closed_inside : (p : ℕ → Bool) (close : ℕ) (bs : List ℕ) → is_closed p close bs ≡ true → list_all p (take (length bs - 1) bs) ≡ true
-closed_inside p close [] h = refl
-closed_inside p close (b ∷ []) h = refl
-closed_inside p close (b ∷ c ∷ bs) h =
-    let n : length (b ∷ c ∷ bs) - 1 ≡ suc (length (c ∷ bs) - 1) = omega arith in
-    elim (cases_Bool (eqb b close)) [
-      | inl hit ↦ let off : false ≡ true = rw hit at h in absurd (false≢true off)
-      | inr miss ↦
-          let both : (p b && is_closed p close (c ∷ bs)) ≡ true = rw miss at h in
-          let parts = and_parts (p b) (is_closed p close (c ∷ bs)) both in
-          let rest = closed_inside p close (c ∷ bs) parts.1 in
-          ap (λ z. list_all p (take z (b ∷ c ∷ bs))) n ∙ (ap (λ z. z && list_all p (take (length (c ∷ bs) - 1) (c ∷ bs))) parts.0 ∙ rest)
-    ]
+never : {A : Type 0} (place : Place) (P : Type 0) (y : A) → not_yet place ≡ Ok y → P
+never place P y e = absurd (err_ok _ y e)
 
-literal_inside : (text : List ℕ) → is_literal text ≡ true → list_all in_literal (inside text) ≡ true
-literal_inside [] h = absurd (false≢true h)
-literal_inside (b ∷ bs) h =
-    let closed = (and_parts (eqb b 39) (is_closed in_literal 39 bs) h).1 in
-    let n : length (b ∷ bs) - 2 ≡ length bs - 1 = omega arith in
-    ap (λ z. list_all in_literal (take z bs)) n ∙ closed_inside in_literal 39 bs closed
+-- ---- terms
 
-sign_made : (o : Option Sign) (token : Token) → sign_token o ≡ Some token → IsMade token
-sign_made None token e = absurd (none_some token e)
-  where
-    none_some : (token : Token) → None ≡ Some token → ⊥
-    none_some token e = cc
-sign_made (Some sign) token e = let same : t.Sign sign ≡ token = cc in subst IsMade same tt
+some_ok : (place : Place) (cs xs : List ℕ) → some_characters place cs ≡ Ok xs → 0 < length xs
+some_ok place [] xs e = never place (0 < length xs) xs e
+some_ok place (c ∷ cs) xs e = let same : c ∷ cs ≡ xs = same_ok (c ∷ cs) xs e in omega (arith, ap length same)
 
-token_made : (text : List ℕ) (token : Token) → token_of text ≡ Some token → IsMade token
-unfolding token_of
-token_made text token e = elim (cases_Bool (is_word text)) [
-  | inl hit ↦
-      let some : Some (t.Word text) ≡ Some token = rw hit at e in
-      let same : t.Word text ≡ token = cc in
-      subst IsMade same hit
-  | inr miss ↦
-      let other = rw miss at e in
-      elim (cases_Bool (is_literal text)) [
-        | inl hit ↦
-            let some : Some (t.Literal (inside text)) ≡ Some token = rw hit at other in
-            let same : t.Literal (inside text) ≡ token = cc in
-            subst IsMade same (literal_inside text hit)
-        | inr miss ↦
-            let sign : sign_token (sign_of text) ≡ Some token = rw miss at other in
-            sign_made (sign_of text) token sign
-      ]
+literal_ok : (w : Word) (xs : List ℕ) → literal_of w ≡ Ok xs → 0 < length xs
+literal_ok w xs e =
+    if_ok (ends_as_it_begins w.text) (some_characters w.place (characters false (inside w.text))) (not_yet w.place) (0 < length xs) xs e
+    (λ _ h. some_ok w.place (characters false (inside w.text)) xs h) (λ _ h. never w.place (0 < length xs) xs h)
+
+layer_ok : (l : Layer) (xs : List ℕ) → layer_of l ≡ Ok xs → 0 < length xs
+layer_ok (operand.Literal w) xs e = literal_ok w xs e
+layer_ok (operand.Number n) xs e = never _ (0 < length xs) xs e
+layer_ok (operand.Range low dots high) xs e = never _ (0 < length xs) xs e
+layer_ok (operand.Set w) xs e = never _ (0 < length xs) xs e
+layer_ok (operand.RegularExpression w) xs e = never _ (0 < length xs) xs e
+layer_ok (operand.Name w) xs e = never _ (0 < length xs) xs e
+layer_ok (operand.Group opening inner closing) xs e = never _ (0 < length xs) xs e
+layer_ok (operand.Scanner s) xs e = never _ (0 < length xs) xs e
+
+unnegated_ok : (ns : List Negation) (r : Result (List ℕ) Fault) (xs : List ℕ) → unnegated ns r ≡ Ok xs → r ≡ Ok xs
+unnegated_ok [] r xs e = e
+unnegated_ok (n ∷ ns) r xs e = never _ (r ≡ Ok xs) xs e
+
+unrepeated_ok : (rs : List Repetition) (cs xs : List ℕ) → unrepeated rs cs ≡ Ok xs → cs ≡ xs
+unrepeated_ok [] cs xs e = same_ok cs xs e
+unrepeated_ok (r ∷ rs) cs xs e = never _ (cs ≡ xs) xs e
+
+repeated_ok : (r : Repeated) (xs : List ℕ) → repeated_of r ≡ Ok xs → 0 < length xs
+repeated_ok r xs e =
+    let n = (out-Repeated r).operand in
+    let step = then_ok (negated_of n) (unrepeated (out-Repeated r).repetitions) xs e in
+    let some : 0 < length step.0 = layer_ok (out-Operand (out-Negated n).operand) step.0 (unnegated_ok (out-Negated n).negations (operand_of (out-Negated n).operand) step.0 step.1) in
+    subst (λ z. 0 < length z) (unrepeated_ok (out-Repeated r).repetitions step.0 xs step.2) some
+
+action_ok : (names : List (List ℕ)) (w : Word) (a : ActionId) → action_named names w ≡ Ok a → IsNumber (length names) a
+action_ok names w a e = elim (option_cases (position (bytes_eq w.text) names)) [
+  | inl found ↦
+      let same = same_ok _ a (ap (action_at w.place) (sym found.1) ∙ e) in
+      let within : found.0 < length names = (position-Some (bytes_eq w.text) names found.0 [] found.1).0 in
+      subst (IsNumber (length names)) same (record { from = omega arith; to = omega arith })
+  | inr none ↦ never w.place (IsNumber (length names) a) a (ap (action_at w.place) (sym none) ∙ e)
 ]
 
-kept_is : (rest : List ℕ) (o : Option Token) (token : Token) → kept_before rest o ≡ Some token → o ≡ Some token
-kept_is rest None token e = e
-kept_is rest (Some (t.Word w)) token e = e
-kept_is rest (Some (t.Literal cs)) token e = e
-kept_is rest (Some (t.Sign s.BlockStart)) token e = e
-kept_is rest (Some (t.Sign s.BlockEnd)) token e = e
-kept_is rest (Some (t.Sign s.Semicolon)) token e = e
-kept_is rest (Some (t.Sign s.Instantiate)) token e = e
-kept_is rest (Some (t.Sign s.AllTransitions)) token e = e
-kept_is rest (Some (t.Sign s.EmptyCode)) token e = e
-kept_is rest (Some (t.Sign s.AllStates)) token e = elim (cases_Bool (begins in_word rest)) [
-  | inl hit ↦ let off : None ≡ Some token = rw hit at e in cc
-  | inr miss ↦ let on : Some (t.Sign s.AllStates) ≡ Some token = rw miss at e in on
-]
+use_ok : (names : List (List ℕ)) (u : ActionUse) (a : ActionId) → action_of names u ≡ Ok a → IsNumber (length names) a
+use_ok names (use_of.Name w) a e = action_ok names w a e
+use_ok names (use_of.Group opening w closing) a e = action_ok names w a e
+use_ok names (use_of.Code w) a e = never w.place (IsNumber (length names) a) a e
 
-are_made : (text : List ℕ) (ts : List Token) → AreTokens text ts → AreMade ts
-are_made text [] h = tt
-are_made text (x ∷ xs) h =
-    let behind = behind_blanks text in
-    (token_made (take h.0 behind) x (kept_is (drop h.0 behind) (token_of (take h.0 behind)) x h.1.is_token), are_made (drop h.0 behind) xs h.2)
+label_ok : (names : List (List ℕ)) (place : Place) (l : Label) (a : ActionId) → labelled_of names place l ≡ Ok a → IsNumber (length names) a
+label_ok names place (label.Action u) a e = use_ok names u a e
+label_ok names place (label.Priority p) a e = never place (IsNumber (length names) a) a e
 
-made_right : (xs ys : List Token) → AreMade (xs ++ ys) → AreMade ys
-made_right [] ys h = h
-made_right (x ∷ xs) ys h = made_right xs ys h.1
+embedding_ok : (names : List (List ℕ)) (x : Embedding) (a : ActionId) → embedding_of names x ≡ Ok a → IsNumber (length names) a
+embedding_ok names (embedding.Transition (transition.All place) l) a e = label_ok names place l a e
+embedding_ok names (embedding.Transition (transition.Entering place) l) a e = never place (IsNumber (length names) a) a e
+embedding_ok names (embedding.Transition (transition.Finishing place) l) a e = never place (IsNumber (length names) a) a e
+embedding_ok names (embedding.Transition (transition.Leaving place) l) a e = never place (IsNumber (length names) a) a e
+embedding_ok names (embedding.State m u) a e = never _ (IsNumber (length names) a) a e
+embedding_ok names (embedding.When place u) a e = never place (IsNumber (length names) a) a e
 
-actions_made : (names : List (List ℕ)) (ys : List Token) → AreMade (flat_map action_tokens names ++ ys) → (k : ℕ) (d : List ℕ) → k < length names → is_word (get_or names k d) ≡ true
-actions_made [] ys h k d l = absurd (omega arith)
-actions_made (name ∷ names) ys h zero d l = h.1.0
-actions_made (name ∷ names) ys h (suc k) d l = actions_made names ys h.1.1.1 k d (omega arith)
+each_ok : {A B : Type 0} (read : A → Result B Fault) (P : B → Type 0) → ((x : A) (y : B) → read x ≡ Ok y → P y) → (xs : List A) (ys : List B) → each read xs ≡ Ok ys → All P ys
+each_ok read P one [] ys e = subst (All P) (same_ok [] ys e) (all_none P)
+each_ok read P one (x ∷ xs) ys e =
+    let first = then_ok (read x) (λ y. and_then (each read xs) (λ ys. Ok (y ∷ ys))) ys e in
+    let rest = then_ok (each read xs) (λ ys. Ok (first.0 ∷ ys)) ys first.2 in
+    subst (All P) (same_ok (first.0 ∷ rest.0) ys rest.2) (all_more P first.0 rest.0 (one x first.0 first.1) (each_ok read P one xs rest.0 rest.1))
 
-name_from : (word : List ℕ) → is_word word ≡ true → IsName word → is_name word ≡ true
-name_from word w free = ap (λ z. z && not (is_reserved word)) w ∙ ap not free
+embedded_ok : (names : List (List ℕ)) (x : Embedded) (t : Term) → embedded_of names x ≡ Ok t → IsTerm (length names) t
+embedded_ok names x t e =
+    let first = then_ok (repeated_of (out-Embedded x).operand) (λ cs. and_then (each (embedding_of names) (out-Embedded x).embeddings) (λ labels. Ok (term cs labels))) t e in
+    let rest = then_ok (each (embedding_of names) (out-Embedded x).embeddings) (λ labels. Ok (term first.0 labels)) t first.2 in
+    subst (IsTerm (length names)) (same_ok (term first.0 rest.0) t rest.2) (record {
+      some = repeated_ok (out-Embedded x).operand first.0 first.1;
+      labels = each_ok (embedding_of names) (IsNumber (length names)) (embedding_ok names) (out-Embedded x).embeddings rest.0 rest.1;
+    })
 
-all_from : (p : ℕ → Bool) (xs : List ℕ) → list_all p xs ≡ true → (k : ℕ) (d : ℕ) → k < length xs → p (get_or xs k d) ≡ true
-all_from p [] h k d l = absurd (omega arith)
-all_from p (x ∷ xs) h zero d l = (and_parts (p x) (list_all p xs) h).0
-all_from p (x ∷ xs) h (suc k) d l = all_from p xs (and_parts (p x) (list_all p xs) h).1 k d (omega arith)
+joined_ok : (s : Option ConcatenationSign) (r : Result Term Fault) (t : Term) → joined s r ≡ Ok t → r ≡ Ok t
+joined_ok None r t e = e
+joined_ok (Some (sign.Plain place)) r t e = e
+joined_ok (Some (sign.LeftGuarded place)) r t e = never place (r ≡ Ok t) t e
+joined_ok (Some (sign.EntryGuarded place)) r t e = never place (r ≡ Ok t) t e
+joined_ok (Some (sign.FinishGuarded place)) r t e = never place (r ≡ Ok t) t e
 
-is_number : (names : List (List ℕ)) (action : ActionId) (name : List ℕ) → name_of names action ≡ Some name → IsNumber (length names) action
-is_number names action name e = by_number names action.0 name e
-  where
-    by_number : (names : List (List ℕ)) (n : ℕ) (name : List ℕ) → name_at names n ≡ Some name → IsNumber (length names) (record { 0 = n })
-    by_number names zero name e = absurd cc
-    by_number names (suc k) name e = let within = slice_get_within names k name e in record { from = omega arith; to = omega arith }
+part_ok : (names : List (List ℕ)) (p : ConcatenationPart) (t : Term) → part_of names p ≡ Ok t → IsTerm (length names) t
+part_ok names p t e =
+    embedded_ok names (out-ConcatenationPart p).operand t (joined_ok (out-ConcatenationPart p).sign (embedded_of names (out-ConcatenationPart p).operand) t e)
 
-labels_from : (names labels : List (List ℕ)) (numbers : List ActionId) → map (name_of names) numbers ≡ map Some labels → (k : ℕ) (d : ActionId) → k < length numbers → IsNumber (length names) (get_or numbers k d)
-labels_from names labels [] e k d l = absurd (omega arith)
-labels_from names [] (n ∷ ns) e k d l = absurd cc
-labels_from names (x ∷ xs) (n ∷ ns) e zero d l = let one : name_of names n ≡ Some x = cc in is_number names n x one
-labels_from names (x ∷ xs) (n ∷ ns) e (suc k) d l = let rest : map (name_of names) ns ≡ map Some xs = cc in labels_from names xs ns rest k d (omega arith)
+-- terms, of which there is one at least
+pub record AreTerms (count : ℕ) (terms : List Term) : Type 0 where
+  pub some : 0 < length terms
+  pub each_is : All (IsTerm count) terms
 
-sentence_made : (x : Sentence) (source : Source) → AreMade (sentence_tokens x) → IsSentence x → Resolves x source → IsSource source
-sentence_made x source made fits names =
-    let tail = flat_map label_tokens x.labels ++ closing_tokens in
-    let main = made_right (flat_map action_tokens x.actions) (main_tokens x.characters ++ tail) made.1.1.1.1 in
-    let word : is_name x.machine ≡ true = name_from x.machine made.1.1.0 fits.machine in
-    let chars : list_all in_literal x.characters ≡ true = main.1.1.0 in
-    let Named : List (List ℕ) → Type 0 = λ z. All (λ (name : List ℕ). IsTrue (is_name name)) z in
-    let Differing : List (List ℕ) → Type 0 = λ z. AllPairs (λ a b. a ≢ b) z in
-    let Spelled : List ℕ → Type 0 = λ z. All (λ c. IsTrue (in_literal c)) z in
-    let Short : List ℕ → Type 0 = λ z. IsLength (length z) in
-    let Numbered : List (List ℕ) → Type 0 = λ z. All (IsNumber (length z)) source.labels in
-    let every_name : Named x.actions = λ k d l. name_from (get_or x.actions k d) (actions_made x.actions (main_tokens x.characters ++ tail) made.1.1.1.1 k d l) (fits.actions k d l) in
-    record {
-      machine = ap is_name names.machine ∙ word;
-      actions = subst Named (sym names.actions) every_name;
-      distinct = subst Differing (sym names.actions) names.distinct;
-      characters = subst Spelled (sym names.characters) (all_from in_literal x.characters chars);
-      size = subst Short (sym names.characters) fits.characters;
-      labels = subst Numbered (sym names.actions) (labels_from x.actions x.labels source.labels names.labels);
-    }
+concatenation_ok : (names : List (List ℕ)) (c : Concatenation) (ts : List Term) → concatenation_of names c ≡ Ok ts → AreTerms (length names) ts
+concatenation_ok names c ts e =
+    let first = then_ok (embedded_of names (out-Concatenation c).first) (λ t. and_then (each (part_of names) (out-Concatenation c).rest) (λ ts. Ok (t ∷ ts))) ts e in
+    let rest = then_ok (each (part_of names) (out-Concatenation c).rest) (λ ts. Ok (first.0 ∷ ts)) ts first.2 in
+    subst (AreTerms (length names)) (same_ok (first.0 ∷ rest.0) ts rest.2) (record {
+      some = omega arith;
+      each_is = all_more (IsTerm (length names)) first.0 rest.0 (embedded_ok names (out-Concatenation c).first first.0 first.1)
+          (each_ok (part_of names) (IsTerm (length names)) (part_ok names) (out-Concatenation c).rest rest.0 rest.1);
+    })
+
+alone_ok : (ps : List UnionPart) (ts us : List Term) → alone ps ts ≡ Ok us → ts ≡ us
+alone_ok [] ts us e = same_ok ts us e
+alone_ok (p ∷ ps) ts us e = never _ (ts ≡ us) us e
+
+terms_ok : (names : List (List ℕ)) (u : Union) (ts : List Term) → terms_of names u ≡ Ok ts → AreTerms (length names) ts
+terms_ok names u ts e =
+    let first = then_ok (concatenation_of names (out-Union u).first) (alone (out-Union u).rest) ts e in
+    subst (AreTerms (length names)) (alone_ok (out-Union u).rest first.0 ts first.2) (concatenation_ok names (out-Union u).first first.0 first.1)
+
+-- more actions do not matter
+number_more : (m n : ℕ) (a : ActionId) → m ≤ n → IsNumber m a → IsNumber n a
+number_more m n a less h = let low = h.from in let high = h.to in record { from = low; to = omega arith }
+
+terms_more : (m n : ℕ) (ts : List Term) → m ≤ n → AreTerms m ts → AreTerms n ts
+terms_more m n ts less h = record {
+  some = h.some;
+  each_is = λ i d l. let t = h.each_is i d l in record { some = t.some; labels = λ j a b. number_more m n (get_or (get_or ts i d).labels j a) less (t.labels j a b) };
+}
+
+-- ---- names
+
+abbrev NamedText : List Lexeme → Type 0
+NamedText [] = Unit {0}
+NamedText (l ∷ ls) = (l.kind ≡ k.Name → is_name l.text ≡ true) × NamedText ls
+
+named_left : (a b : List Lexeme) → NamedText (a ++ b) → NamedText a
+named_left [] b h = tt
+named_left (l ∷ a) b h = (h.0, named_left a b h.1)
+
+named_right : (a b : List Lexeme) → NamedText (a ++ b) → NamedText b
+named_right [] b h = h
+named_right (l ∷ a) b h = named_right a b h.1
+
+tokens_named : (ts : List Token) → All (λ t. t.kind ≡ k.Name → is_name t.text ≡ true) ts → NamedText (lexemes ts)
+tokens_named [] h = tt
+tokens_named (t ∷ ts) h = (λ e. ap is_name (ap (λ z. carried z t.text) e) ∙ h 0 t (omega arith) e, tokens_named ts (λ i d l. h (suc i) d (omega arith)))
+
+abbrev AreNamed : List Statement → Type 0
+AreNamed [] = Unit {0}
+AreNamed (s ∷ ss) = NamedText (statement_text s) × AreNamed ss
+
+named_each : (ss : List Statement) → NamedText (flat_map statement_text ss) → AreNamed ss
+named_each [] h = tt
+named_each (s ∷ ss) h = (named_left (statement_text s) (flat_map statement_text ss) h, named_each ss (named_right (statement_text s) (flat_map statement_text ss) h))
+
+named_both : (xs ys : List Statement) → AreNamed xs → AreNamed ys → AreNamed (xs ++ ys)
+named_both [] ys h g = g
+named_both (x ∷ xs) ys h g = (h.0, named_both xs ys h.1 g)
+
+trees_named : (blocks : List (List Token)) (trees : List Syntax) → AllTokens blocks → AreTrees blocks trees → AreNamed (statements_of trees)
+trees_named [] [] a h = tt
+trees_named [] (t ∷ ts) a h = absurd h
+trees_named (b ∷ bs) [] a h = absurd h
+trees_named (b ∷ bs) (t ∷ ts) a h =
+    let all : NamedText (flat_map statement_text t.statements ++ mark k.End t.end) = subst NamedText h.0.derived.spelled (tokens_named b a.0.names) in
+    named_both t.statements (statements_of ts) (named_each t.statements (named_left (flat_map statement_text t.statements) (mark k.End t.end) all)) (trees_named bs ts a.1 h.1)
+
+-- ---- what is said
+
+abbrev IsNamed : List ℕ → Type 0
+IsNamed name = IsTrue (is_name name)
+
+pub record IsSaid (d : Said) : Type 0 where
+  pub machine : (name : List ℕ) → d.machine ≡ Some name → IsNamed name
+  pub actions : All IsNamed d.actions
+  pub distinct : AllPairs Differ d.actions
+  pub terms : (ts : List Term) → d.terms ≡ Some ts → AreTerms (length d.actions) ts
+
+nothing_said : IsSaid nothing
+nothing_said = record {
+  machine = λ name e. absurd cc;
+  actions = all_none IsNamed;
+  distinct = λ i j d less l. absurd (omega arith);
+  terms = λ ts e. absurd cc;
+}
+
+same_option : {A : Type 0} (x y : A) → Some x ≡ Some y → x ≡ y
+same_option x y e = cc
+
+machine_ok : (d e : Said) (o : Option (List ℕ)) (m : Machine) → IsSaid d → IsNamed m.name.text → with_machine d o m ≡ Ok e → IsSaid e
+machine_ok d e None m h name is = subst IsSaid (same_ok _ e is) (record {
+  machine = λ text same. subst IsNamed (same_option m.name.text text same) name;
+  actions = h.actions;
+  distinct = h.distinct;
+  terms = h.terms;
+})
+machine_ok d e (Some other) m h name is =
+    if_ok (bytes_eq other m.name.text) (Ok d) (not_yet m.start) (IsSaid e) e is (λ _ same. subst IsSaid (same_ok d e same) h) (λ _ no. never m.start (IsSaid e) e no)
+
+action_said : (d e : Said) (a : Action) → IsSaid d → IsNamed a.name.text → with_action d a ≡ Ok e → IsSaid e
+action_said d e a h name is =
+    let more : Result Said Fault = Ok (record d { actions = d.actions ++ a.name.text ∷ [] }) in
+    if_ok (list_any (bytes_eq a.name.text) d.actions) (not_yet a.name.place) (cond (steers a.code.text) (not_yet a.code.place) more) (IsSaid e) e is
+    (λ _ no. never a.name.place (IsSaid e) e no)
+    (λ new rest. if_ok (steers a.code.text) (not_yet a.code.place) more (IsSaid e) e rest (λ _ no. never a.code.place (IsSaid e) e no)
+    (λ _ same. subst IsSaid (same_ok _ e same) (record {
+      machine = h.machine;
+      actions = All-push IsNamed d.actions a.name.text h.actions name;
+      distinct = push_distinct d.actions a.name.text h.distinct new;
+      terms = λ ts t. terms_more (length d.actions) (length (d.actions ++ a.name.text ∷ [])) ts (omega (arith, length-append d.actions (a.name.text ∷ []))) (h.terms ts t);
+    })))
+
+data_ok : (d e : Said) (place : Place) → IsSaid d → with_data d place ≡ Ok e → IsSaid e
+data_ok d e place h is =
+    if_ok d.has_data (not_yet place) (Ok (record d { has_data = true })) (IsSaid e) e is (λ _ no. never place (IsSaid e) e no)
+    (λ _ same. subst IsSaid (same_ok _ e same) (record { machine = h.machine; actions = h.actions; distinct = h.distinct; terms = h.terms }))
+
+write_ok : (d e : Said) (place : Place) (w : WriteKind) → IsSaid d → with_write d place w ≡ Ok e → IsSaid e
+write_ok d e place (written.Data p) h is = data_ok d e place h is
+write_ok d e place (written.Init p) h is = subst IsSaid (same_ok d e is) h
+write_ok d e place (written.Exec p) h is = subst IsSaid (same_ok d e is) h
+
+definition_ok : (d e : Said) (s : Definition) → IsSaid d → with_definition d s ≡ Ok e → IsSaid e
+definition_ok d e s h is =
+    if_ok (is_built d.terms s.sign s.name.text) (and_then (terms_of d.actions s.value) (λ ts. Ok (record d { terms = Some ts }))) (not_yet s.name.place) (IsSaid e) e is
+    (λ _ more.
+    let found = then_ok (terms_of d.actions s.value) (λ ts. Ok (record d { terms = Some ts })) e more in
+    subst IsSaid (same_ok _ e found.2) (record {
+      machine = h.machine;
+      actions = h.actions;
+      distinct = h.distinct;
+      terms = λ ts same. subst (AreTerms (length d.actions)) (same_option found.0 ts same) (terms_ok d.actions s.value found.0 found.1);
+    }))
+    (λ _ no. never s.name.place (IsSaid e) e no)
+
+statement_ok : (d e : Said) (s : Statement) → IsSaid d → NamedText (statement_text s) → with_statement d s ≡ Ok e → IsSaid e
+statement_ok d e (statement.Machine s) h n is = machine_ok d e d.machine s h (n.1.0 refl) is
+statement_ok d e (statement.Include s) h n is = never s.start (IsSaid e) e is
+statement_ok d e (statement.Alphtype s) h n is = never s.start (IsSaid e) e is
+statement_ok d e (statement.Access s) h n is = subst IsSaid (same_ok d e is) h
+statement_ok d e (statement.Variable s) h n is = subst IsSaid (same_ok d e is) h
+statement_ok d e (statement.Write s) h n is = write_ok d e s.start s.what h is
+statement_ok d e (statement.Action s) h n is = action_said d e s h (n.1.0 refl) is
+statement_ok d e (statement.Definition s) h n is = definition_ok d e s h is
+
+said_ok : (d e : Said) (s : Statement) → IsSaid d → NamedText (statement_text s) → said d s ≡ Ok e → IsSaid e
+said_ok d e s h n is =
+    if_ok (is_ready d.machine s) (with_statement d s) _ (IsSaid e) e is (λ _ more. statement_ok d e s h n more) (λ _ no. never _ (IsSaid e) e no)
+
+all_ok : (d e : Said) (ss : List Statement) → IsSaid d → AreNamed ss → all_said d ss ≡ Ok e → IsSaid e
+all_ok d e [] h n is = subst IsSaid (same_ok d e is) h
+all_ok d e (s ∷ ss) h n is =
+    let first = then_ok (said d s) (λ x. all_said x ss) e is in
+    all_ok first.0 e ss (said_ok d first.0 s h n.0 first.1) n.1 first.2
+
+finished_ok : (d : Said) (m : Option (List ℕ)) (t : Option (List Term)) (source : Source) → IsSaid d → d.machine ≡ m → d.terms ≡ t → finished d m t ≡ Ok source → IsSource source
+finished_ok d (Some name) (Some ts) source h m t is =
+    let terms = h.terms ts t in
+    subst IsSource (same_ok _ source is) (record {
+      machine = h.machine name m;
+      actions = h.actions;
+      distinct = h.distinct;
+      some = terms.some;
+      terms = terms.each_is;
+    })
+finished_ok d (Some name) None source h m t is = never _ (IsSource source) source is
+finished_ok d None t source h m u is = never _ (IsSource source) source is
 
 pub reads_form : (text : List ℕ) (source : Source) → Reads text source → IsSource source
-reads_form text source h = sentence_made h.sentence source (are_made text (sentence_tokens h.sentence) h.tokens) h.fits h.names
+reads_form text source h =
+    let found = then_ok (all_said nothing (statements_of h.trees)) source_of_said source h.named in
+    let d = found.0 in
+    let ok = all_ok nothing d (statements_of h.trees) nothing_said (trees_named h.blocks h.trees (file_holds text h.blocks h.tokens) h.derived) found.1 in
+    finished_ok d d.machine d.terms source ok refl refl found.2
+
+pub if_form : (text : List ℕ) (r : Result Source ReadFault) → IfOk r (λ source. Reads text source) → IfOk r IsSource
+if_form text (Ok source) h = reads_form text source h
+if_form text (Err e) h = h

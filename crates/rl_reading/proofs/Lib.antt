@@ -1,6 +1,9 @@
-pub mod Longest
-pub mod Lexing
-pub mod Rows
+pub mod CharacterLaws
 pub mod NameLaws
-pub mod Refusing
+pub mod ResultLaws
+pub mod StatementLaws
+pub mod TokenForms
+pub mod TokenLists
+pub mod TreeLaws
+pub mod ReadingLaws
 pub mod Forms

@@ -1,19 +1,22 @@
-//! The reading of a source: its tokens, its sentence, its names, and the specification that it stands for.
+//! The reading of a source: its parts, tokens and syntax trees, what its statements name, and the specification that it
+//! stands for.
 #![tactic(auto)]
 
-mod bytes;
+mod code;
 mod laws;
-mod names;
+mod literal;
+mod memory;
+mod places;
 mod read;
-mod sentence;
 mod source;
-mod token;
-mod tokens;
+mod statements;
+mod terms;
 
-pub use laws::{sources_have_form, texts_read_once};
+pub use laws::{refusals_are_sharp, sources_have_form, texts_read_once};
 pub use read::read_source;
-pub use source::{ReadSourceError, Sentence, Source};
-pub use token::{Sign, Token};
+pub use rl_grammar::ReadFault;
+pub use source::{Source, Term};
+pub use statements::source_of;
 
 #[cfg(test)]
 mod tests;
