@@ -1,0 +1,11 @@
+pub mod TextLaws
+pub mod CutLaws
+pub mod SetLaws
+pub mod RegularLaws
+pub mod RunLaws
+pub mod FormLaws
+pub mod BuiltInLaws
+pub mod MemberLaws
+pub mod NumberLaws
+pub mod ByteLaws
+pub mod SingleLaws

@@ -1,0 +1,11 @@
+pub mod Texts
+pub mod Cuts
+pub mod CharacterSets
+pub mod Ranges
+pub mod Forms
+pub mod Literals
+pub mod Sets
+pub mod RegularExpressions
+pub mod Keys
+pub mod BuiltIns
+pub mod Answers

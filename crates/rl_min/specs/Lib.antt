@@ -1,0 +1,6 @@
+pub mod Roots
+pub mod Places
+pub mod Walks
+pub mod States
+pub mod Canonical
+pub mod Laws

@@ -1,0 +1,32 @@
+// The machine of all entries.
+ghost use Rattle.std.specs.Prelude.{◌≤◌, IfOk, length};
+ghost use Rattle.rl_min.specs.Canonical.{IsMachineOf};
+
+use crate::entries::starts;
+use crate::numbered::{numbers_of, plain_first};
+use crate::states::states_for;
+use crate::walk::walk;
+use rl_fsm::RootFsm;
+use rl_minimal::MinFsm;
+use rl_types::Memory;
+use std::alloc::Global;
+
+/// The machine that the entries make together: Error, which has number 0, and the states that their starts reach. These
+/// count from 1 in the order in which a breadth-first walk meets them, from the entries in text order, by ascending key
+/// and then truths; those that are not final stand before those that are (this profile). No states are merged. Lists of
+/// actions are in the order of their stamps, and of several copies of an action the first stays. An `Err` is want of
+/// memory.
+pub fn minimise(alloc: Global, root: &RootFsm) -> Result<MinFsm, Memory>
+    requires { 1 ≤ length root.now }
+    ensures { IfOk result (λ m. IsMachineOf root.now m) }
+{
+    let starts = starts(alloc, root)?;
+    let met = walk(alloc, root, &starts)?;
+    let numbered = plain_first(alloc, root, &met)?;
+    let states = states_for(alloc, root, &numbered.places)?;
+    let entries = numbers_of(alloc, &numbered.places, &starts)?;
+    match MinFsm::new(states, entries, numbered.plain as u32 + 1) {
+        Some(machine) => Ok(machine),
+        None => unreachable!(),
+    }
+}
