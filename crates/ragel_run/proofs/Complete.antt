@@ -8,8 +8,6 @@ use Rattle.rl_reading.specs.Reading as reading
 use Rattle.rl_reading.specs.Reading.{IsRefusal}
 use Rattle.rl_reading.proofs.ReadingLaws.{refusals_once, read_or_refused}
 use Rattle.rl_replay.specs.declared.script.Line.{Line}
-use Rattle.rl_replay.specs.declared.script.ScriptFault.{ScriptFault}
-use Rattle.rl_replay.specs.declared.script.ScriptFault.TheVariants.{BadLine}
 use Rattle.rl_script.specs.OneSession.{one_session}
 use Rattle.ragel_run.specs.declared.refusal.Refusal.{Refusal}
 use Rattle.ragel_run.specs.declared.refusal.Refusal.TheVariants as refusals
@@ -32,10 +30,7 @@ lacks_not None name t told p q = absurd (cc told)
 
 -- there is one first bad line, and none where the text has the form
 bad_once : (text : List ℕ) (m n : ℕ) → IsFirstBad text m → IsFirstBad text n → m ≡ n
-bad_once text m n a b = bad_same (sym a ∙ b)
-  where
-    bad_same : Err {T = List Line} (BadLine m) ≡ Err (BadLine n) → m ≡ n
-    bad_same e = cc
+bad_once text m n a b = cc (sym a ∙ b)
 
 form_not_bad : (text : List ℕ) (lines : List Line) (n : ℕ) → one_session text ≡ Ok lines → IsFirstBad text n → ⊥
 form_not_bad text lines n f b = cc (sym f ∙ b)

@@ -1,13 +1,16 @@
 -- How the steps of a replay put together say how it ends.
 use Rattle.std.proofs.Common.{◌≡◌, ℕ, List, Option, None, Result, Ok, Err, subst}
-use Rattle.rl_io.specs.Outside.{Held, Appends, AppendsPrefix}
+use Rattle.rl_io.specs.Outside.{Held, Reads, Appends, AppendsPrefix}
 use Rattle.rl_model.specs.Trees.{TestsOf}
 use Rattle.rl_reading.specs.declared.source.Source.{Source}
 use Rattle.rl_reading.specs.Rewriting.{specification_of_source}
 use Rattle.rl_replay.specs.declared.script.Line.{Line}
+use Rattle.rl_replay.specs.declared.script.ScriptFault.TheVariants as faults
+use Rattle.rl_script.specs.declared.one_session.OneSession.{OneSession}
+use Rattle.rl_script.specs.OneSession.{one_session, IsOf, Explains}
 use Rattle.ragel_run.specs.declared.refusal.Refusal.{Refusal}
 use Rattle.ragel_run.specs.declared.refusal.Refusal.TheVariants as refusals
-use Rattle.ragel_run.specs.Replay.{AreWords, Outside, HasSource, HasScript, WritesAsOne, prescribed, Replays, IsRefused, Ends, Refuses, ReadsSpec, ReadsScript, WritesLines}
+use Rattle.ragel_run.specs.Replay.{AreWords, Outside, HasSource, HasScript, IsFirstBad, WritesAsOne, prescribed, Replays, IsRefused, Ends, Refuses, ReadsSpec, ReadsScript, WritesLines}
 
 -- a source that is not read
 pub spec_refused : (held : Held) (words : List (List ℕ)) (spec script : List ℕ) (before now : ℕ) (e : Refusal) →
@@ -22,6 +25,17 @@ spec_refused held words spec script before now (refusals.Limit limit) w p = (spe
 spec_refused held words spec script before now (refusals.BadLine line) w p = absurd p
 spec_refused held words spec script before now refusals.OutputFailed w p = absurd p
 spec_refused held words spec script before now refusals.Memory w p = p
+
+-- a script that is read, and one with a bad line
+pub script_read : (held : Held) (name text bytes : List ℕ) (one : OneSession) (before now : ℕ) → Reads held name text → bytes ≡ text →
+    ((script : List Line) × (one_session bytes ≡ Ok script) × IsOf script one) → ((script : List Line) → one_session bytes ≡ Ok script → WritesAsOne script one.session one.bytes) →
+    now ≡ before → ReadsScript held name before now (Ok one)
+script_read held name text bytes one before now reads same found joined quiet =
+    (found.0, record { text = text; reads = reads; form = subst (λ t. one_session t ≡ Ok found.0) same found.1 }, joined found.0 found.1, quiet)
+
+pub script_bad : (held : Held) (name text bytes : List ℕ) (line before now : ℕ) → Reads held name text → bytes ≡ text → Explains bytes (faults.BadLine line) →
+    now ≡ before → ReadsScript held name before now (Err (refusals.BadLine line))
+script_bad held name text bytes line before now reads same bad quiet = (text, reads, subst (λ t. IsFirstBad t line) same bad, quiet)
 
 -- a script that is not read
 pub script_refused : (held : Held) (words : List (List ℕ)) (spec script : List ℕ) (source : Source) (before now : ℕ) (e : Refusal) →

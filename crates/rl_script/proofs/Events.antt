@@ -1,6 +1,7 @@
 -- What lines say of one session, and which lines say it.
-use Rattle.std.proofs.Common.{◌≡◌, ℕ, ℤ, Bool, true, false, cond, ◌&&◌, IsTrue, List, [], ◌∷◌, ◌++◌, Option, Some, None, option_map, option_and_then, codes, get_or, refl, sym, ◌∙◌, ap, subst, ◌==◌, All}
+use Rattle.std.proofs.Common.{◌≡◌, ℕ, ℤ, Bool, true, false, cond, ◌&&◌, IsTrue, List, [], ◌∷◌, ◌++◌, Option, Some, None, option_map, option_and_then, codes, get_or, ◌↔◌, refl, sym, ◌∙◌, ap, subst, ◌==◌, All}
 use Rattle.std.proofs.lemmas.Bool.Decides.{Decides-eqb}
+use Rattle.std.proofs.lemmas.List.{append_cancel_left}
 use Rattle.std.proofs.lemmas.List.Splits.{slice_split_none, slice_split_at, join_with_byte-slice_split}
 use Rattle.std.proofs.lemmas.List.Sums.{AllPass-from_list_all}
 use Rattle.std.proofs.lemmas.Slice.Eq.{bytes_eq-Decides}
@@ -112,7 +113,7 @@ says_words (s ∷ condition ∷ count ∷ []) all e h = absurd (cc h)
 says_words (s ∷ condition ∷ count ∷ answer ∷ []) all e h = go (is_session s && is_word condition) (count_of count) (yes_or_no answer) h
   where
     go : (b : Bool) (n : Option ℕ) (a : Option Bool) → cond b (option_and_then (λ n. option_map (λ yes. Say s condition n yes) a) n) None ≡ Some e → Words e all
-    go true (Some n) (Some yes) g = subst (λ x. Words x all) (some_same (Say s condition n yes) e g) tt
+    go true (Some n) (Some holds) g = subst (λ x. Words x all) (some_same (Say s condition n holds) e g) tt
     go true (Some n) None g = absurd (cc g)
     go true None a g = absurd (cc g)
     go false n a g = absurd (cc g)
@@ -148,9 +149,6 @@ event_words (verb ∷ words) e h = opens (bytes_eq verb (codes "open")) refl h
     opens true f g = verb_is (codes "open") f (opens_words words e g)
     opens false f g = feeds (bytes_eq verb (codes "piece")) refl g
 
-words_of : List ℕ → List (List ℕ)
-words_of line = slice_split (λ b. b == 32) line
-
 joined : (line : List ℕ) (words : List (List ℕ)) → slice_split (λ b. b == 32) line ≡ words → line ≡ join_with_byte 32 words
 joined line words e = sym (join_with_byte-slice_split 32 line) ∙ ap (join_with_byte 32) e
 
@@ -184,3 +182,47 @@ says_something (b ∷ line) e h = go (b == 35) refl
     go : (c : Bool) → (b == 35) ≡ c → c ≡ false
     go true f = absurd (cc (sym (hash (slice_split (λ x. x == 32) line)) ∙ sym (ap (λ x. event_of (x ∷ line)) ((Decides-eqb b 35).0 f)) ∙ h))
     go false f = refl
+
+-- the tests of a line
+pub ends_if : (line name s : List ℕ) (r : Bool) → is_session s ≡ true → line ≡ codes "end " ++ name → r ≡ bytes_eq name s → IsTrue r ↔ (event_of line ≡ Some (End s))
+ends_if line name s r session e f = (
+  λ t. ap event_of (e ∙ ap (λ x. codes "end " ++ x) ((bytes_eq-Decides name s).0 (sym f ∙ t))) ∙ ending_event s session,
+  λ h. f ∙ (bytes_eq-Decides name s).1 (append_cancel_left (codes "end ") name s (sym e ∙ ended_line line s h)),
+)
+
+pub ends_never : (line s : List ℕ) → ((rest : List ℕ) → line ≡ codes "end " ++ rest → ⊥) → IsTrue false ↔ (event_of line ≡ Some (End s))
+ends_never line s f = ((λ t. absurd (cc t)), (λ h. absurd (f s (ended_line line s h))))
+
+pub opens_never : (line : List ℕ) → ((rest : List ℕ) → line ≡ codes "open " ++ rest → ⊥) → (s : List ℕ) → event_of line ≡ Some (Open s None) → ⊥
+opens_never line f s h = f s (opened_line line s h).1
+
+pub opens_none : (line found : List ℕ) → line ≡ codes "open " ++ found → is_session found ≡ false → (s : List ℕ) → event_of line ≡ Some (Open s None) → ⊥
+opens_none line found e no s h =
+    let (named, g) = opened_line line s h in
+    cc (sym no ∙ ap is_session (append_cancel_left (codes "open ") found s (sym e ∙ g)) ∙ named)
+
+pub opens_some : (line found : List ℕ) → line ≡ codes "open " ++ found → is_session found ≡ true → event_of line ≡ Some (Open found None)
+opens_some line found e named = ap event_of e ∙ opening_event found named
+
+pub feeds_never : (line s : List ℕ) → ((rest : List ℕ) → line ≡ codes "piece " ++ (s ++ (32 ∷ rest)) → ⊥) → (bytes : List ℕ) → event_of line ≡ Some (Piece s bytes) → ⊥
+feeds_never line s f bytes h = let (quoted, e) = fed_line line s bytes h in f quoted e
+
+pub feeds_some : (line s quoted : List ℕ) → is_session s ≡ true → line ≡ codes "piece " ++ (s ++ (32 ∷ quoted)) →
+    event_of line ≡ option_map (λ bytes. Piece s bytes) (bytes_of quoted)
+feeds_some line s quoted named e = ap event_of e ∙ piece_event s quoted named
+
+-- what stands behind a word, a name and a blank
+module _ (line word name : List ℕ) where
+  pub no_word : ((rest : List ℕ) → line ≡ word ++ rest → ⊥) → (rest : List ℕ) → line ≡ word ++ (name ++ (32 ∷ rest)) → ⊥
+  no_word f rest e = f (name ++ (32 ∷ rest)) e
+
+  pub no_name : (named : List ℕ) → line ≡ word ++ named → ((rest : List ℕ) → named ≡ name ++ rest → ⊥) → (rest : List ℕ) → line ≡ word ++ (name ++ (32 ∷ rest)) → ⊥
+  no_name named e f rest g = f (32 ∷ rest) (append_cancel_left word named (name ++ (32 ∷ rest)) (sym e ∙ g))
+
+  pub no_blank : (named tail : List ℕ) → line ≡ word ++ named → named ≡ name ++ tail → ((rest : List ℕ) → tail ≡ 32 ∷ rest → ⊥) →
+      (rest : List ℕ) → line ≡ word ++ (name ++ (32 ∷ rest)) → ⊥
+  no_blank named tail e f g rest h =
+      g rest (append_cancel_left name tail (32 ∷ rest) (sym f ∙ append_cancel_left word named (name ++ (32 ∷ rest)) (sym e ∙ h)))
+
+  pub all_three : (named tail rest : List ℕ) → line ≡ word ++ named → named ≡ name ++ tail → tail ≡ 32 ∷ rest → line ≡ word ++ (name ++ (32 ∷ rest))
+  all_three named tail rest e f g = e ∙ ap (λ x. word ++ x) (f ∙ ap (λ x. name ++ x) g)

@@ -1,19 +1,17 @@
 -- Lines that are due make a script of one session.
-use Rattle.std.proofs.Common.{◌≡◌, ℕ, ◌+◌, Bool, true, false, cond, List, [], ◌∷◌, ◌++◌, Option, Some, None, option_map, option_and_then, Result, Ok, Err, refl, sym, ◌∙◌, ap, subst, append_assoc, append-nil}
+use Rattle.std.proofs.Common.{◌≡◌, ℕ, ◌+◌, Bool, true, false, cond, List, [], ◌∷◌, ◌++◌, Option, Some, None, option_and_then, Result, Ok, Err, refl, sym, ◌∙◌, ap, subst, append_assoc}
 use Rattle.std.proofs.lemmas.Slice.Eq.{bytes_eq-Decides}
 use Rattle.std.specs.Bool.{then_some}
-use Rattle.std.specs.Result.{result_map_both}
 use Rattle.std.specs.Str.{bytes_eq}
 use Rattle.rl_replay.specs.declared.script.Event.{Event}
 use Rattle.rl_replay.specs.declared.script.Event.TheVariants.{Open, Piece, End, Pick, Say}
 use Rattle.rl_replay.specs.declared.script.Line.{Line}
 use Rattle.rl_replay.specs.declared.script.ScriptFault.{ScriptFault}
 use Rattle.rl_replay.specs.declared.script.ScriptFault.TheVariants.{BadLine}
-use Rattle.rl_replay.specs.Script.{bytes_of, event_of, events_from, or_bad, says_nothing, with_line}
+use Rattle.rl_replay.specs.Script.{event_of, events_from, or_bad, with_line}
 use Rattle.rl_replay.specs.Sessions.{fed}
-use Rattle.rl_script.specs.declared.deed.Deed.TheVariants.{Feeds, Ends, Other}
 use Rattle.rl_script.specs.OneSession.{Due, opening, going, nothing, behind, if_due, due_lines, at_end}
-use Rattle.rl_script.specs.Reading.{Does, fed_behind}
+use Rattle.rl_script.specs.Reading.{fed_behind}
 use Rattle.rl_script.proofs.Events.{says_something}
 
 -- lines of which each is due
@@ -25,13 +23,13 @@ AreDue due (line ∷ rest) = (next : Due) × (behind due line.event ≡ Some nex
 abbrev Read : Due → ℕ → List (List ℕ) → List Line → Type 0
 Read due n lines script = AreDue due script × (events_from n lines ≡ Ok script)
 
-lines_same : (x y : List Line) → Ok x ≡ Ok y → x ≡ y
-lines_same x y e = cc
+lines_same : (r : Result (List Line) ScriptFault) (x y : List Line) → r ≡ Ok x → r ≡ Ok y → x ≡ y
+lines_same r x y e f = cc (sym e ∙ f)
 
 none_left : (due : Due) (n : ℕ) (script : List Line) → at_end due n ≡ Ok script → Read due n [] script
 none_left opening n script e = absurd (cc e)
 none_left (going s) n script e = absurd (cc e)
-none_left nothing n script e = subst (Read nothing n []) (lines_same [] script e) (refl, refl)
+none_left nothing n script e = subst (Read nothing n []) (lines_same (Ok []) [] script refl e) (refl, refl)
 
 module _ (due : Due) (n : ℕ) (line : List ℕ) (rest : List (List ℕ)) (script : List Line)
     (later : (next : Due) (ls : List Line) → due_lines next (n + 1) rest ≡ Ok ls → Read next (n + 1) rest ls) where
@@ -47,7 +45,7 @@ module _ (due : Due) (n : ℕ) (line : List ℕ) (rest : List (List ℕ)) (scrip
   more event next (Err fault) f g h k = absurd (cc k)
   more event next (Ok ls) f g h k =
       let all = later next ls h in
-      subst (Read due n (line ∷ rest)) (lines_same (record { number = n; event = event } ∷ ls) script k) ((next, g, all.0), reads event ls f all.1)
+      subst (Read due n (line ∷ rest)) (lines_same (Ok (record { number = n; event = event } ∷ ls)) (record { number = n; event = event } ∷ ls) script refl k) ((next, g, all.0), reads event ls f all.1)
 
   follow : (event : Event) (o : Option Due) → event_of line ≡ Some event → behind due event ≡ o →
       if_due n (Some event) o (λ next. due_lines next (n + 1) rest) ≡ Ok script → Read due n (line ∷ rest) script
@@ -62,20 +60,7 @@ pub are_due : (due : Due) (n : ℕ) (lines : List (List ℕ)) (script : List Lin
 are_due due n [] script e = none_left due n script e
 are_due due n (line ∷ rest) script e = one_more due n line rest script (λ next ls h. are_due next (n + 1) rest ls h) (event_of line) refl e
 
--- what is done with one line of an open session
-bytes_same : (x y : List ℕ) → Some x ≡ Some y → x ≡ y
-bytes_same x y e = cc
-
-pub does_feed : (s old new : List ℕ) (event : Option Event) (o : Option (List ℕ)) → event ≡ option_map (λ bytes. Piece s bytes) o →
-    option_map (λ x. old ++ x) o ≡ Some new → Does s event old new Feeds
-does_feed s old new event None e f = absurd (cc f)
-does_feed s old new event (Some bytes) e f = (bytes, e, sym (bytes_same (old ++ bytes) new f))
-
-pub does_other : (s old : List ℕ) (event : Option Event) (o : Option (List ℕ)) → event ≡ option_map (λ bytes. Piece s bytes) o →
-    option_map (λ x. old ++ x) o ≡ None → option_and_then (behind (going s)) event ≡ None
-does_other s old event None e f = ap (option_and_then (behind (going s))) e
-does_other s old event (Some bytes) e f = absurd (cc f)
-
+-- a line that is neither a piece nor the end of the open session
 pub not_due : (s : List ℕ) (event : Option Event) → ((bytes : List ℕ) → event ≡ Some (Piece s bytes) → ⊥) → (event ≡ Some (End s) → ⊥) →
     option_and_then (behind (going s)) event ≡ None
 not_due s None f g = refl
@@ -97,21 +82,11 @@ not_due s (Some (End t)) f g = go (bytes_eq t s) refl
 same_due : (s : List ℕ) (next : Due) → then_some (bytes_eq s s) next ≡ Some next
 same_due s next = ap (λ b. then_some b next) ((bytes_eq-Decides s s).1 refl)
 
-pub on_piece : (s : List ℕ) (n : ℕ) (line bytes : List ℕ) (rest : List (List ℕ)) → event_of line ≡ Some (Piece s bytes) →
+on_piece : (s : List ℕ) (n : ℕ) (line bytes : List ℕ) (rest : List (List ℕ)) → event_of line ≡ Some (Piece s bytes) →
     due_lines (going s) n (line ∷ rest) ≡ with_line n (Piece s bytes) (due_lines (going s) (n + 1) rest)
 on_piece s n line bytes rest e =
     ap (λ o. if_due n o (option_and_then (behind (going s)) o) (λ next. due_lines next (n + 1) rest)) e
     ∙ ap (λ o. if_due n (Some (Piece s bytes)) o (λ next. due_lines next (n + 1) rest)) (same_due s (going s))
-
-pub on_end : (s : List ℕ) (n : ℕ) (line : List ℕ) (rest : List (List ℕ)) → event_of line ≡ Some (End s) →
-    due_lines (going s) n (line ∷ rest) ≡ with_line n (End s) (due_lines nothing (n + 1) rest)
-on_end s n line rest e =
-    ap (λ o. if_due n o (option_and_then (behind (going s)) o) (λ next. due_lines next (n + 1) rest)) e
-    ∙ ap (λ o. if_due n (Some (End s)) o (λ next. due_lines next (n + 1) rest)) (same_due s nothing)
-
-pub on_open : (s line : List ℕ) (rest : List (List ℕ)) → event_of line ≡ Some (Open s None) →
-    due_lines opening 1 (line ∷ rest) ≡ with_line 1 (Open s None) (due_lines (going s) 2 rest)
-on_open s line rest e = ap (λ o. if_due 1 o (option_and_then (behind opening) o) (λ next. due_lines next 2 rest)) e
 
 not_due_stops : (n : ℕ) (event : Option Event) (o : Option Due) (rest : Due → Result (List Line) ScriptFault) → o ≡ None → if_due n event o rest ≡ Err (BadLine n)
 not_due_stops n None o rest e = refl
@@ -124,7 +99,11 @@ on_other due n line rest e = not_due_stops n (event_of line) (option_and_then (b
 
 pub nothing_due : (event : Option Event) → option_and_then (behind nothing) event ≡ None
 nothing_due None = refl
-nothing_due (Some event) = refl
+nothing_due (Some (Open s entry)) = refl
+nothing_due (Some (Piece s bytes)) = refl
+nothing_due (Some (End s)) = refl
+nothing_due (Some (Pick s action n picks)) = refl
+nothing_due (Some (Say s condition n holds)) = refl
 
 pub opening_due : (event : Option Event) → ((s : List ℕ) → event ≡ Some (Open s None) → ⊥) → option_and_then (behind opening) event ≡ None
 opening_due None f = refl
@@ -145,15 +124,3 @@ pub fed_on : (s old new : List ℕ) (n : ℕ) (line bytes : List ℕ) (rest : Li
 fed_on s old new n line bytes rest e f =
     ap (fed_behind old) (on_piece s n line bytes rest e) ∙ fed_more old bytes s n (due_lines (going s) (n + 1) rest)
     ∙ ap (λ x. fed_behind x (due_lines (going s) (n + 1) rest)) (sym f)
-
-pub fed_end : (s old : List ℕ) (n : ℕ) (line : List ℕ) (rest : List (List ℕ)) → event_of line ≡ Some (End s) → due_lines nothing (n + 1) rest ≡ Ok [] →
-    fed_behind old (due_lines (going s) n (line ∷ rest)) ≡ Ok old
-fed_end s old n line rest e f = ap (fed_behind old) (on_end s n line rest e ∙ ap (with_line n (End s)) f) ∙ ap (λ x. Ok x) (append-nil old)
-
-pub fed_over : (s old : List ℕ) (n : ℕ) (line : List ℕ) (rest : List (List ℕ)) (fault : ScriptFault) → event_of line ≡ Some (End s) → due_lines nothing (n + 1) rest ≡ Err fault →
-    fed_behind old (due_lines (going s) n (line ∷ rest)) ≡ Err fault
-fed_over s old n line rest fault e f = ap (fed_behind old) (on_end s n line rest e ∙ ap (with_line n (End s)) f)
-
-pub fed_other : (s old : List ℕ) (n : ℕ) (line : List ℕ) (rest : List (List ℕ)) → option_and_then (behind (going s)) (event_of line) ≡ None →
-    fed_behind old (due_lines (going s) n (line ∷ rest)) ≡ Err (BadLine n)
-fed_other s old n line rest e = ap (fed_behind old) (on_other (going s) n line rest e)

@@ -1,5 +1,5 @@
 -- What a script of one session is and writes.
-use Rattle.std.proofs.Common.{◌≡◌, ◌==◌, ◌+◌, ℕ, Bool, true, false, cond, not, ◌&&◌, ◌||◌, List, [], ◌∷◌, ◌++◌, map, filter, filter_map, position, Option, Some, None, option_map, unwrap_or, Result, Ok, Err, refl, sym, ◌∙◌, ap, subst, append-nil, arith}
+use Rattle.std.proofs.Common.{◌≡◌, if◌then◌else◌, ◌==◌, ◌+◌, ℕ, Bool, true, false, cond, not, ◌||◌, List, [], ◌∷◌, ◌++◌, map, filter, filter_map, position, Option, Some, None, option_map, unwrap_or, Result, Ok, Err, refl, sym, ◌∙◌, ap, subst, append-nil, arith}
 use Rattle.std.proofs.lemmas.Bool.Decides.{nat_tests}
 use Rattle.std.proofs.lemmas.List.Folds.{list_any-append}
 use Rattle.std.proofs.lemmas.Slice.Eq.{bytes_eq-Decides}
@@ -19,14 +19,15 @@ use Rattle.rl_replay.specs.declared.script.Event.{Event}
 use Rattle.rl_replay.specs.declared.script.Event.TheVariants as events
 use Rattle.rl_replay.specs.declared.script.Line.{Line}
 use Rattle.rl_replay.specs.declared.script.ScriptFault.{ScriptFault}
-use Rattle.rl_replay.specs.declared.script.ScriptFault.TheVariants.{BadLine, Twice, NoSession, NoEntry, NoName, Full, Memory}
+use Rattle.rl_replay.specs.declared.script.ScriptFault.TheVariants.{NoSession, NoEntry}
 use Rattle.rl_replay.specs.Script.{lines_of, with_line, read_script}
-use Rattle.rl_replay.specs.Sessions.{Names, session_of, opening_of, opened_by, is_end, only, first, is_ended, is_live, fed, live, entry_or_start, start_entry, if_so, fault_of, fault_from, unless, admitted, script_of}
+use Rattle.rl_replay.specs.Sessions.{Names, session_of, opened_by, is_end, only, first, is_ended, is_live, fed, live, entry_or_start, start_entry, if_so, fault_of, fault_from, unless, admitted, script_of}
 use Rattle.rl_replay.specs.Host.{picks_for, says_for, is_ask, times, yes_no, picks_answer, own_picks, host}
 use Rattle.rl_replay.specs.Lines.{run_lines}
 use Rattle.rl_replay.specs.Written.{texts, parts_from, left, written, whole_input}
-use Rattle.rl_replay.proofs.Whole.{AreInOrder, only_own, added_up, one_run}
-use Rattle.rl_script.specs.OneSession.{Due, opening, going, nothing, behind, due_lines, one_session, IsOf, IsFaultOf, Explains}
+use Rattle.rl_replay.proofs.Whole.{AreInOrder, added_up, one_run}
+use Rattle.rl_script.specs.declared.one_session.OneSession.{OneSession}
+use Rattle.rl_script.specs.OneSession.{Due, opening, going, nothing, behind, due_lines, one_session, IsOf}
 use Rattle.rl_script.specs.Reading.{fed_behind}
 use Rattle.rl_script.proofs.Lines.{AreDue, are_due}
 
@@ -34,7 +35,11 @@ due_same : (x y : Due) → Some x ≡ Some y → x ≡ y
 due_same x y e = cc
 
 none_behind : (event : Event) (next : Due) → behind nothing event ≡ Some next → ⊥
-none_behind event next e = cc e
+none_behind (events.Open s entry) next e = cc e
+none_behind (events.Piece s bytes) next e = cc e
+none_behind (events.End s) next e = cc e
+none_behind (events.Pick s action n picks) next e = cc e
+none_behind (events.Say s condition n holds) next e = cc e
 
 -- behind the end stands no line
 over : (lines : List Line) → AreDue nothing lines → lines ≡ []
@@ -182,34 +187,31 @@ module _ (s : List ℕ) where
         ∙ faultless rest due [] tt refl
 
 -- what the reading of a text's lines finds
-lines_same : (x y : List Line) → Ok x ≡ Ok y → x ≡ y
-lines_same x y e = cc
+abbrev pub one_of : List ℕ → List ℕ → OneSession
+one_of s bytes = record { session = s; bytes = bytes }
+
+lines_same : (r : Result (List Line) ScriptFault) (x y : List Line) → r ≡ Ok x → r ≡ Ok y → x ≡ y
+lines_same r x y e f = cc (sym e ∙ f)
+
+bytes_same : (r : Result (List ℕ) ScriptFault) (x y : List ℕ) → r ≡ Ok x → r ≡ Ok y → x ≡ y
+bytes_same r x y e f = cc (sym e ∙ f)
 
 module _ (text s bytes : List ℕ) (rest : List (List ℕ)) (opened : one_session text ≡ with_line 1 (events.Open s None) (due_lines (going s) 2 rest))
     (read : fed_behind [] (due_lines (going s) 2 rest) ≡ Ok bytes) where
   found : (ls : List Line) × (one_session text ≡ Ok (opening_line s 1 ∷ ls)) × AreDue (going s) ls × (fed ls ≡ bytes)
   found = go (due_lines (going s) 2 rest) refl read
     where
-      bytes_same : (x : List ℕ) → Ok x ≡ Ok bytes → x ≡ bytes
-      bytes_same x e = cc
-
       go : (r : Result (List Line) ScriptFault) → due_lines (going s) 2 rest ≡ r → fed_behind [] r ≡ Ok bytes →
           (ls : List Line) × (one_session text ≡ Ok (opening_line s 1 ∷ ls)) × AreDue (going s) ls × (fed ls ≡ bytes)
-      go (Ok ls) e f = (ls, opened ∙ ap (with_line 1 (events.Open s None)) e, (are_due (going s) 2 rest ls e).0, bytes_same (fed ls) f)
+      go (Ok ls) e f = (ls, opened ∙ ap (with_line 1 (events.Open s None)) e, (are_due (going s) 2 rest ls e).0, bytes_same (Ok (fed ls)) (fed ls) bytes refl f)
       go (Err fault) e f = absurd (cc f)
 
-  is_of : IsOf (opening_line s 1 ∷ found.0) (record { session = s; bytes = bytes })
+  is_of : IsOf (opening_line s 1 ∷ found.0) (one_of s bytes)
   is_of = record { session = only_script s 1 found.0 found.2; bytes = found.3 }
 
   -- it is the only script that the text is
   once : (script : List Line) → one_session text ≡ Ok script → opening_line s 1 ∷ found.0 ≡ script
-  once script e = lines_same (opening_line s 1 ∷ found.0) script (sym found.1 ∙ e)
-
-  pub read_ok : (script : List Line) × (one_session text ≡ Ok script) × IsOf script (record { session = s; bytes = bytes })
-  read_ok = (opening_line s 1 ∷ found.0, found.1, is_of)
-
-  pub read_only : (script : List Line) → one_session text ≡ Ok script → IsOf script (record { session = s; bytes = bytes })
-  read_only script e = subst (λ x. IsOf x (record { session = s; bytes = bytes })) (once script e) is_of
+  once script e = lines_same (one_session text) (opening_line s 1 ∷ found.0) script found.1 e
 
   pub read_script_too : (script : List Line) → one_session text ≡ Ok script → (read_script text ≡ Ok script) × ((names : Names) → script_of names text ≡ Ok script)
   read_script_too script e =
@@ -219,33 +221,19 @@ module _ (text s bytes : List ℕ) (rest : List (List ℕ)) (opened : one_sessio
             (subst (λ x. fault_from names x [] x ≡ None) (once script e) (no_fault s names (opening_line s 1 ∷ found.0) 1 found.0 found.2)),
       )
 
-  pub read_joined : (script : List Line) → one_session text ≡ Ok script → (names : Names) (m : Machine ℕ) (settings : Settings) →
-      written names m settings script ≡ written names m settings (whole_input s None bytes)
-  read_joined script e names m settings =
-      ap (written names m settings) (sym (once script e)) ∙ written_once s 1 found.0 found.2 names m settings
-      ∙ ap (λ b. written names m settings (whole_input s None b)) found.3
+  module _ (name all : List ℕ) (name_is : name ≡ s) (all_is : all ≡ bytes) where
+    same_one : one_of s bytes ≡ one_of name all
+    same_one = λ i. one_of (sym name_is i) (sym all_is i)
 
--- what the lines behind the first lack, the text lacks
-pub read_fault : (text s : List ℕ) (rest : List (List ℕ)) (fault : ScriptFault) → one_session text ≡ with_line 1 (events.Open s None) (due_lines (going s) 2 rest) →
-    IsFaultOf (fed_behind [] (due_lines (going s) 2 rest)) fault → Explains text fault
-read_fault text s rest (BadLine n) opened h = opened ∙ go (due_lines (going s) 2 rest) h
-  where
-    go : (r : Result (List Line) ScriptFault) → fed_behind [] r ≡ Err (BadLine n) → with_line 1 (events.Open s None) r ≡ Err (BadLine n)
-    go (Ok ls) e = absurd (cc e)
-    go (Err fault) e = cc e
-read_fault text s rest Memory opened h = tt
-read_fault text s rest (Twice n) opened h = h
-read_fault text s rest (NoSession n) opened h = h
-read_fault text s rest (NoEntry n) opened h = h
-read_fault text s rest (NoName n) opened h = h
-read_fault text s rest (Full n) opened h = h
+    pub read_ok : (script : List Line) × (one_session text ≡ Ok script) × IsOf script (one_of name all)
+    read_ok = (opening_line s 1 ∷ found.0, found.1, subst (IsOf (opening_line s 1 ∷ found.0)) same_one is_of)
 
--- a text that has the form is refused for want of memory alone
-pub only_memory : (text : List ℕ) (script : List Line) (fault : ScriptFault) → one_session text ≡ Ok script → Explains text fault → fault ≡ Memory
-only_memory text script (BadLine n) e h = absurd (cc (sym e ∙ h))
-only_memory text script Memory e h = refl
-only_memory text script (Twice n) e h = absurd h
-only_memory text script (NoSession n) e h = absurd h
-only_memory text script (NoEntry n) e h = absurd h
-only_memory text script (NoName n) e h = absurd h
-only_memory text script (Full n) e h = absurd h
+    pub read_only : (script : List Line) → one_session text ≡ Ok script → IsOf script (one_of name all)
+    read_only script e = subst (λ x. IsOf x (one_of name all)) (once script e) (subst (IsOf (opening_line s 1 ∷ found.0)) same_one is_of)
+
+    pub read_joined : (script : List Line) → one_session text ≡ Ok script → (names : Names) (m : Machine ℕ) (settings : Settings) →
+        written names m settings script ≡ written names m settings (whole_input name None all)
+    read_joined script e names m settings =
+        ap (written names m settings) (sym (once script e)) ∙ written_once s 1 found.0 found.2 names m settings
+        ∙ ap (λ b. written names m settings (whole_input s None b)) found.3
+        ∙ ap (λ (o : OneSession). written names m settings (whole_input o.session None o.bytes)) same_one

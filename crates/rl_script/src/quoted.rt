@@ -1,5 +1,5 @@
 // The bytes that a text in quotes stands for.
-ghost use Rattle.std.specs.Prelude.{◌≡◌, ◌<◌, ◌↔◌, IsTrue, true, [], ◌∷◌, ◌++◌, length, None, Some, option_map, MatchOption, IfSome, IfOk};
+ghost use Rattle.std.specs.Prelude.{◌≡◌, ◌<◌, ◌≤◌, ◌↔◌, ◌&&◌, nat_le, IsTrue, true, [], ◌∷◌, ◌++◌, length, None, Some, option_map, MatchOption, IfSome, IfOk};
 ghost use Rattle.std.specs.Bool.{then_some};
 ghost use Rattle.rl_replay.specs.Script.{escape_of, hex_of, plain, backslash, hex, digit, unquoted, with_byte, bytes_of};
 
@@ -19,17 +19,24 @@ fn letter(b: u8) -> Option<u8>
     }
 }
 
+fn is_between(low: u8, b: u8, high: u8) -> bool
+    ensures value { result ≡ (nat_le low b && nat_le b high) }
+    ensures within { result ≡ true → (low ≤ b) × (b ≤ high) }
+{
+    low <= b && b <= high
+}
+
 // The value of a hexadecimal digit.
 fn hex_value(b: u8) -> Option<u8>
     ensures value { result ≡ hex_of b }
     ensures small { IfSome result (λ n. n < 16) }
 {
-    if (b'0'..=b'9').contains(&b) {
+    if is_between(b'0', b, b'9') {
         Some(b - b'0')
-    } else if (b'A'..=b'F').contains(&b) {
-        Some(b - b'A' + 10)
-    } else if (b'a'..=b'f').contains(&b) {
-        Some(b - b'a' + 10)
+    } else if is_between(b'A', b, b'F') {
+        Some(b - (b'A' - 10))
+    } else if is_between(b'a', b, b'f') {
+        Some(b - (b'a' - 10))
     } else {
         None
     }

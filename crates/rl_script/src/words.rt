@@ -51,7 +51,8 @@ fn behind_name<'a>(line: &'a [u8], word: &[u8], name: &[u8]) -> Option<&'a [u8]>
 {
     let named = strip(line, word)?;
     let behind = strip(named, name)?;
-    strip(behind, b" ")
+    let rest = strip(behind, b" ")?;
+    Some(rest)
 }
 
 // The text that stands for a session's bytes in a line.
