@@ -197,9 +197,9 @@ pub opens_never : (line : List ℕ) → ((rest : List ℕ) → line ≡ codes "o
 opens_never line f s h = f s (opened_line line s h).1
 
 pub opens_none : (line found : List ℕ) → line ≡ codes "open " ++ found → is_session found ≡ false → (s : List ℕ) → event_of line ≡ Some (Open s None) → ⊥
-opens_none line found e no s h =
+opens_none line found e nameless s h =
     let (named, g) = opened_line line s h in
-    cc (sym no ∙ ap is_session (append_cancel_left (codes "open ") found s (sym e ∙ g)) ∙ named)
+    cc (sym nameless ∙ ap is_session (append_cancel_left (codes "open ") found s (sym e ∙ g)) ∙ named)
 
 pub opens_some : (line found : List ℕ) → line ≡ codes "open " ++ found → is_session found ≡ true → event_of line ≡ Some (Open found None)
 opens_some line found e named = ap event_of e ∙ opening_event found named
