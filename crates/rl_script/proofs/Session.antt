@@ -8,7 +8,7 @@ use Rattle.std.specs.List.{AllByRecursion, last_or, cons_option}
 use Rattle.std.specs.Option.{option_or}
 use Rattle.std.specs.Str.{bytes_eq}
 use Rattle.rl_run.specs.declared.calls.Answer.{Answer}
-use Rattle.rl_run.specs.declared.calls.Answer.TheVariants.{Yes, No}
+use Rattle.rl_run.specs.declared.calls.Answer.TheVariants.{Yes}
 use Rattle.rl_run.specs.declared.calls.Call.{Call}
 use Rattle.rl_run.specs.declared.calls.Pick.{Pick}
 use Rattle.rl_run.specs.declared.sessions.Settings.{Settings}

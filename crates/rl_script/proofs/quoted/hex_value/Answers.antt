@@ -1,4 +1,4 @@
-use Rattle.std.proofs.Common.{◌≡◌, ◌-◌, ℕ, Bool, true, false, cond, ◌&&◌, nat_le, Option, Some, None, sym, ◌∙◌, ap}
+use Rattle.std.proofs.Common.{◌≡◌, ◌-◌, ℕ, Bool, false, cond, ◌&&◌, nat_le, Some, None, sym, ◌∙◌, ap}
 use Rattle.std.specs.Bool.{then_some}
 use Rattle.rl_replay.specs.Script.{hex_of}
 use Rattle.rl_script.proofs.quoted.hex_value.Goals as goal
