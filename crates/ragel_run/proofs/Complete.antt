@@ -2,7 +2,6 @@
 use Rattle.std.proofs.Common.{◌≡◌, ◌∙◌, ◌⊎◌, inl, inr, ℕ, List, [], ◌∷◌, Option, Some, None, Result, Ok, Err, IsSome, refl, sym, ap, subst}
 use Rattle.rl_io.specs.Outside.{Held, Reads, Lacks}
 use Rattle.rl_types.specs.declared.status.Status.{Status}
-use Rattle.rl_grammar.specs.declared.read_fault.ReadFault.{ReadFault}
 use Rattle.rl_grammar.specs.declared.read_fault.ReadFault.TheVariants as reason
 use Rattle.rl_reading.specs.Reading as reading
 use Rattle.rl_reading.specs.Reading.{IsRefusal}

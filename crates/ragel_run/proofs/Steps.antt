@@ -1,5 +1,5 @@
 -- How the steps of a replay put together say how it ends.
-use Rattle.std.proofs.Common.{◌≡◌, ℕ, List, Option, None, Result, Ok, Err, subst}
+use Rattle.std.proofs.Common.{◌≡◌, ℕ, List, Option, Result, Ok, Err, subst}
 use Rattle.rl_io.specs.Outside.{Held, Reads, Appends, AppendsPrefix}
 use Rattle.rl_model.specs.Trees.{TestsOf}
 use Rattle.rl_reading.specs.declared.source.Source.{Source}
