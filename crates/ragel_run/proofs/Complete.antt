@@ -1,17 +1,16 @@
 -- A replay that meets no fault ends as it is to end.
-use Rattle.std.proofs.Common.{◌≡◌, ◌∙◌, ◌⊎◌, inl, inr, ℕ, zero, suc, ◌+◌, ◌≤◌, List, [], ◌∷◌, take, Option, Some, None, Result, Ok, Err, IsSome, refl, sym, ap, subst, arith}
+use Rattle.std.proofs.Common.{◌≡◌, ◌∙◌, ◌⊎◌, inl, inr, ℕ, List, [], ◌∷◌, Option, Some, None, Result, Ok, Err, IsSome, refl, sym, ap, subst}
 use Rattle.rl_io.specs.Outside.{Held, Reads, Lacks}
 use Rattle.rl_types.specs.declared.status.Status.{Status}
-use Rattle.rl_grammar.specs.declared.read_fault.ReadFault.{ReadFault}
 use Rattle.rl_grammar.specs.declared.read_fault.ReadFault.TheVariants as reason
 use Rattle.rl_reading.specs.Reading as reading
 use Rattle.rl_reading.specs.Reading.{IsRefusal}
 use Rattle.rl_reading.proofs.ReadingLaws.{refusals_once, read_or_refused}
-use Rattle.rl_replay.specs.FirstForm.{Begins, IsFirstBad, IsFirstForm}
-use Rattle.rl_replay.specs.Script.{lines_of}
+use Rattle.rl_replay.specs.declared.script.Line.{Line}
+use Rattle.rl_script.specs.OneSession.{one_session}
 use Rattle.ragel_run.specs.declared.refusal.Refusal.{Refusal}
 use Rattle.ragel_run.specs.declared.refusal.Refusal.TheVariants as refusals
-use Rattle.ragel_run.specs.Replay.{Outside, Ends, Due, DueBySpec, DueByScript, HasNoFault, HasCause, IsComplete, EndsWith, Tells, status_of, line_of, refusal_of}
+use Rattle.ragel_run.specs.Replay.{Outside, Ends, Due, DueBySpec, DueByScript, IsFirstBad, HasNoFault, HasCause, IsComplete, EndsWith, Tells, status_of, line_of, refusal_of}
 
 -- what is told is read in one way, and is not lacking
 reads_once : (held : Held) (name t u : List ℕ) → IsSome held → Reads held name t → Reads held name u → t ≡ u
@@ -28,47 +27,30 @@ lacks_not (Some held) name t told p q = none_some (sym p ∙ q)
     none_some e = cc
 lacks_not None name t told p q = absurd (cc told)
 
--- fewer lines begin as well
-begins_less : (m n : ℕ) (lines : List (List ℕ)) → m ≤ n → Begins n lines → Begins m lines
-begins_less m n lines less b = (b.0, b.1, b.2, b.3, sym (take_take m n lines less) ∙ ap (take m) b.4 ∙ take_take m n _ less)
-  where
-    take_take : (m n : ℕ) (xs : List (List ℕ)) → m ≤ n → take m (take n xs) ≡ take m xs
-    take_take zero n xs less = refl
-    take_take (suc m) zero xs less = absurd (omega arith)
-    take_take (suc m) (suc n) [] less = refl
-    take_take (suc m) (suc n) (x ∷ xs) less = ap (λ ys. x ∷ ys) (take_take m n xs (omega arith))
+-- there is one first bad line, and none where the text has the form
+bad_once : (text : List ℕ) (m n : ℕ) → IsFirstBad text m → IsFirstBad text n → m ≡ n
+bad_once text m n a b = cc (sym a ∙ b)
 
--- there is one first bad line, and none where the lines have the form
-bad_once : (lines : List (List ℕ)) (m n : ℕ) → IsFirstBad lines m → IsFirstBad lines n → m ≡ n
-bad_once lines m n a b = elim (order a.0 b.0) [
-  | inl less ↦ absurd (a.3 (begins_less (a.0 + 1) b.0 lines less b.2))
-  | inr (inl more) ↦ absurd (b.3 (begins_less (b.0 + 1) a.0 lines more a.2))
-  | inr (inr same) ↦ a.1 ∙ ap (λ k. k + 1) same ∙ sym b.1
-]
-  where
-    order : (j k : ℕ) → (j + 1 ≤ k) ⊎ (k + 1 ≤ j) ⊎ (j ≡ k)
-    order j k = grind arith
-
-form_not_bad : (lines : List (List ℕ)) (s bytes : List ℕ) (n : ℕ) → IsFirstForm lines s bytes → IsFirstBad lines n → ⊥
-form_not_bad lines s bytes n f b = b.3 (s, bytes, f.session, f.plain, ap (take (b.0 + 1)) f.lines_are)
+form_not_bad : (text : List ℕ) (lines : List Line) (n : ℕ) → one_session text ≡ Ok lines → IsFirstBad text n → ⊥
+form_not_bad text lines n f b = cc (sym f ∙ b)
 
 module _ (held : Held) (told : IsSome held) where
   script_once : (script : List ℕ) (e f : Result (Unit {0}) Refusal) → DueByScript held script e → DueByScript held script f → e ≡ f
   script_once script e f (inl a) (inl b) = a.1 ∙ sym b.1
   script_once script e f (inl a) (inr (inl b)) = absurd (lacks_not held script b.0 told a.0 b.2)
-  script_once script e f (inl a) (inr (inr b)) = absurd (lacks_not held script b.2.text told a.0 b.2.reads)
+  script_once script e f (inl a) (inr (inr b)) = absurd (lacks_not held script b.1.text told a.0 b.1.reads)
   script_once script e f (inr (inl a)) (inl b) = absurd (lacks_not held script a.0 told b.0 a.2)
   script_once script e f (inr (inl a)) (inr (inl b)) =
-      let bad = subst (λ t. IsFirstBad (lines_of t) b.1) (reads_once held script b.0 a.0 told b.2 a.2) b.3 in
-      a.4 ∙ ap (λ n. Err (refusals.BadLine n)) (bad_once (lines_of a.0) a.1 b.1 a.3 bad) ∙ sym b.4
+      let bad = subst (λ t. IsFirstBad t b.1) (reads_once held script b.0 a.0 told b.2 a.2) b.3 in
+      a.4 ∙ ap (λ n. Err (refusals.BadLine n)) (bad_once a.0 a.1 b.1 a.3 bad) ∙ sym b.4
   script_once script e f (inr (inl a)) (inr (inr b)) =
-      let form = subst (λ t. IsFirstForm (lines_of t) b.0 b.1) (reads_once held script b.2.text a.0 told b.2.reads a.2) b.2.form in
-      absurd (form_not_bad (lines_of a.0) b.0 b.1 a.1 form a.3)
-  script_once script e f (inr (inr a)) (inl b) = absurd (lacks_not held script a.2.text told b.0 a.2.reads)
+      let form = subst (λ t. one_session t ≡ Ok b.0) (reads_once held script b.1.text a.0 told b.1.reads a.2) b.1.form in
+      absurd (form_not_bad a.0 b.0 a.1 form a.3)
+  script_once script e f (inr (inr a)) (inl b) = absurd (lacks_not held script a.1.text told b.0 a.1.reads)
   script_once script e f (inr (inr a)) (inr (inl b)) =
-      let form = subst (λ t. IsFirstForm (lines_of t) a.0 a.1) (reads_once held script a.2.text b.0 told a.2.reads b.2) a.2.form in
-      absurd (form_not_bad (lines_of b.0) a.0 a.1 b.1 form b.3)
-  script_once script e f (inr (inr a)) (inr (inr b)) = a.3 ∙ sym b.3
+      let form = subst (λ t. one_session t ≡ Ok a.0) (reads_once held script a.1.text b.0 told a.1.reads b.2) a.1.form in
+      absurd (form_not_bad b.0 a.0 b.1 form b.3)
+  script_once script e f (inr (inr a)) (inr (inr b)) = a.2 ∙ sym b.2
 
   spec_once : (spec script : List ℕ) (e f : Result (Unit {0}) Refusal) → DueBySpec held spec script e → DueBySpec held spec script f → e ≡ f
   spec_once spec script e f (inl a) (inl b) = a.1 ∙ sym b.1
@@ -103,7 +85,7 @@ module _ (held : Held) (told : IsSome held) where
 
 -- what ended without a fault is as it is to be
 ends_due : (o : Outside) (words : List (List ℕ)) (e : Result (Unit {0}) Refusal) → HasNoFault o → Ends o words e → Due o.held words e ⊎ (e ≡ Err refusals.Memory)
-ends_due o words (Ok tt) n p = let d = p.0 in inl (inr (d.0, d.1, d.2, inr (inr (d.3, d.4, inr (inr (d.5, d.6, d.7, refl))))))
+ends_due o words (Ok tt) n p = let d = p.0 in inl (inr (d.0, d.1, d.2, inr (inr (d.3, d.4, inr (inr (d.5, d.6, refl))))))
 ends_due o words (Err refusals.Usage) n p = inl (inl (p.0.0, refl))
 ends_due o words (Err refusals.NoSpec) n p = let c = p.0 in inl (inr (c.0, c.1, c.2, inl (c.3, refl)))
 ends_due o words (Err refusals.SpecFailed) n p = absurd (n.store p.0.3)

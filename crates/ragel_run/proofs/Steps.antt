@@ -1,14 +1,16 @@
 -- How the steps of a replay put together say how it ends.
-use Rattle.std.proofs.Common.{◌≡◌, ℕ, List, Option, None, Result, Ok, Err, subst}
-use Rattle.rl_io.specs.Outside.{Held, Appends, AppendsPrefix}
+use Rattle.std.proofs.Common.{◌≡◌, ℕ, List, Option, Result, Ok, Err, subst}
+use Rattle.rl_io.specs.Outside.{Held, Reads, Appends, AppendsPrefix}
 use Rattle.rl_model.specs.Trees.{TestsOf}
 use Rattle.rl_reading.specs.declared.source.Source.{Source}
 use Rattle.rl_reading.specs.Rewriting.{specification_of_source}
 use Rattle.rl_replay.specs.declared.script.Line.{Line}
-use Rattle.rl_replay.specs.Written.{whole_input}
+use Rattle.rl_replay.specs.declared.script.ScriptFault.TheVariants as faults
+use Rattle.rl_script.specs.declared.one_session.OneSession.{OneSession}
+use Rattle.rl_script.specs.OneSession.{one_session, IsOf, Explains}
 use Rattle.ragel_run.specs.declared.refusal.Refusal.{Refusal}
 use Rattle.ragel_run.specs.declared.refusal.Refusal.TheVariants as refusals
-use Rattle.ragel_run.specs.Replay.{AreWords, Outside, HasSource, HasScript, prescribed, Replays, IsRefused, Ends, Refuses, ReadsSpec, ReadsScript, WritesLines}
+use Rattle.ragel_run.specs.Replay.{AreWords, Outside, HasSource, HasScript, IsFirstBad, WritesAsOne, prescribed, Replays, IsRefused, Ends, Refuses, ReadsSpec, ReadsScript, WritesLines}
 
 -- a source that is not read
 pub spec_refused : (held : Held) (words : List (List ℕ)) (spec script : List ℕ) (before now : ℕ) (e : Refusal) →
@@ -23,6 +25,17 @@ spec_refused held words spec script before now (refusals.Limit limit) w p = (spe
 spec_refused held words spec script before now (refusals.BadLine line) w p = absurd p
 spec_refused held words spec script before now refusals.OutputFailed w p = absurd p
 spec_refused held words spec script before now refusals.Memory w p = p
+
+-- a script that is read, and one with a bad line
+pub script_read : (held : Held) (name text bytes : List ℕ) (one : OneSession) (before now : ℕ) → Reads held name text → bytes ≡ text →
+    ((script : List Line) × (one_session bytes ≡ Ok script) × IsOf script one) → ((script : List Line) → one_session bytes ≡ Ok script → WritesAsOne script one.session one.bytes) →
+    now ≡ before → ReadsScript held name before now (Ok one)
+script_read held name text bytes one before now reads same found joined quiet =
+    (found.0, record { text = text; reads = reads; form = subst (λ t. one_session t ≡ Ok found.0) same found.1 }, joined found.0 found.1, quiet)
+
+pub script_bad : (held : Held) (name text bytes : List ℕ) (line before now : ℕ) → Reads held name text → bytes ≡ text → Explains bytes (faults.BadLine line) →
+    now ≡ before → ReadsScript held name before now (Err (refusals.BadLine line))
+script_bad held name text bytes line before now reads same bad quiet = (text, reads, subst (λ t. IsFirstBad t line) same bad, quiet)
 
 -- a script that is not read
 pub script_refused : (held : Held) (words : List (List ℕ)) (spec script : List ℕ) (source : Source) (before now : ℕ) (e : Refusal) →
@@ -47,11 +60,11 @@ script_refused_from held mid_held words spec script source before mid now e same
 
 -- a source and a script that are read, and their lines
 pub lines_due : (held mid_held : Held) (words : List (List ℕ)) (spec script : List ℕ) (source : Source) (session bytes : List ℕ) (lines : List Line) (items : List ℕ) → mid_held ≡ held →
-    AreWords words spec script → HasSource held spec source → HasScript mid_held script session bytes → lines ≡ whole_input session None bytes →
-    ((s b : List ℕ) → lines ≡ whole_input s None b → (tests : TestsOf (specification_of_source source)) → items ≡ prescribed source tests s b) →
+    AreWords words spec script → HasSource held spec source → HasScript mid_held script lines → WritesAsOne lines session bytes →
+    ((ls : List Line) → WritesAsOne ls session bytes → (tests : TestsOf (specification_of_source source)) → items ≡ prescribed source tests ls) →
     Replays (λ due. items ≡ due) held words
-lines_due held mid_held words spec script source session bytes lines items same_held w h s is f =
-    (spec, script, w, source, h, session, bytes, subst (λ x. HasScript x script session bytes) same_held s, λ tests. f session bytes is tests)
+lines_due held mid_held words spec script source session bytes lines items same_held w h s same f =
+    (spec, script, w, source, h, lines, subst (λ x. HasScript x script lines) same_held s, λ tests. f lines same tests)
 
 -- where no lines are due, nothing was written
 pub refused : (o : Outside) (words : List (List ℕ)) (e : Refusal) → IsRefused o words e → Ends {T = Unit {0}} o words (Err e)
@@ -68,7 +81,7 @@ refused o words refusals.Memory p = p
 
 -- the lines that are due gain what the expression prescribes
 gains : (Gains : List ℕ → Type 0) (held : Held) (words : List (List ℕ)) (items : List ℕ) → Replays (λ due. items ≡ due) held words → Gains items → Replays Gains held words
-gains Gains held words items r g = (r.0, r.1, r.2, r.3, r.4, r.5, r.6, r.7, λ tests. subst Gains (r.8 tests) g)
+gains Gains held words items r g = (r.0, r.1, r.2, r.3, r.4, r.5, r.6, λ tests. subst Gains (r.7 tests) g)
 
 -- where lines are due, they are written
 pub written : (o : Outside) (words : List (List ℕ)) (items : List ℕ) (r : Result (Unit {0}) Refusal) → Replays (λ due. items ≡ due) o.held words → o.store ≡ o.store_before →

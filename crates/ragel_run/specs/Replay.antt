@@ -19,10 +19,14 @@ use Rattle.rl_reading.specs.Form.{IsSource}
 use Rattle.rl_reading.specs.Reading.{IsRefusal}
 use Rattle.rl_reading.specs.Reading as reading
 use Rattle.rl_reading.specs.Rewriting.{specification_of_source}
-use Rattle.rl_replay.specs.declared.script.Script.{Script}
-use Rattle.rl_replay.specs.FirstForm.{IsFirstForm, IsFirstBad}
-use Rattle.rl_replay.specs.Script.{lines_of}
+use Rattle.rl_run.specs.declared.sessions.Settings.{Settings}
+use Rattle.rl_run.specs.Machine.{Machine}
+use Rattle.rl_replay.specs.declared.script.Line.{Line}
+use Rattle.rl_replay.specs.declared.script.ScriptFault.TheVariants as faults
+use Rattle.rl_replay.specs.Sessions.{Names}
 use Rattle.rl_replay.specs.Written.{written, whole_input}
+use Rattle.rl_script.specs.declared.one_session.OneSession.{OneSession}
+use Rattle.rl_script.specs.OneSession.{one_session}
 use Rattle.rl_line.specs.SourceArrays.{source_names}
 use Rattle.ragel_run.specs.Ends.{default_settings}
 use Rattle.ragel_run.specs.declared.refusal.Refusal.{Refusal}
@@ -70,16 +74,25 @@ pub record HasFault (held : Held) (name : List ℕ) (e : ReadFault) : Type 0 whe
   pub reads : Reads held name text
   pub refused : IsRefusal text e
 
--- the text under a name is a script that opens a session, feeds it bytes and ends it
-pub record HasScript (held : Held) (name session bytes : List ℕ) : Type 0 where
+-- the text under a name is a script of one session, which has these lines
+pub record HasScript (held : Held) (name : List ℕ) (lines : List Line) : Type 0 where
   pub text : List ℕ
   pub reads : Reads held name text
-  pub form : IsFirstForm (lines_of text) session bytes
+  pub form : one_session text ≡ Ok lines
 
--- what the source's expression writes for the script
-abbrev pub prescribed : (source : Source) → TestsOf (specification_of_source source) → List ℕ → List ℕ → List ℕ
-prescribed source tests session bytes =
-    written (source_names source) (tree_machine (specification_of_source source) tests) default_settings (whole_input session None bytes)
+-- the first line of a text that is not due in a script of one session; it may be missing
+abbrev pub IsFirstBad : List ℕ → ℕ → Type 0
+IsFirstBad text line = one_session text ≡ Err (faults.BadLine line)
+
+-- what the source's expression writes for the lines of a script
+abbrev pub prescribed : (source : Source) → TestsOf (specification_of_source source) → List Line → List ℕ
+prescribed source tests lines =
+    written (source_names source) (tree_machine (specification_of_source source) tests) default_settings lines
+
+-- lines write what one piece of all the bytes writes, whatever machine they are for
+abbrev pub WritesAsOne : List Line → List ℕ → List ℕ → Type 0
+WritesAsOne lines session bytes = (names : Names) (m : Machine ℕ) (settings : Settings) →
+    written names m settings lines ≡ written names m settings (whole_input session None bytes)
 
 -- neither the store nor the output failed
 abbrev pub IsFaultless : Outside → Type 0
@@ -92,8 +105,8 @@ IsSilent o = o.written ≡ o.written_before
 -- the source and the script have their forms, and the output gained by what the expression prescribes
 abbrev pub Replays : (List ℕ → Type 0) → Held → List (List ℕ) → Type 0
 Replays Gains held words = (spec script : List ℕ) × AreWords words spec script × (source : Source) × HasSource held spec source
-    × (session bytes : List ℕ) × HasScript held script session bytes
-    × ((tests : TestsOf (specification_of_source source)) → Gains (prescribed source tests session bytes))
+    × (lines : List Line) × HasScript held script lines
+    × ((tests : TestsOf (specification_of_source source)) → Gains (prescribed source tests lines))
 
 -- all of it was written
 abbrev pub IsDone : Outside → List (List ℕ) → Type 0
@@ -116,7 +129,7 @@ Refuses held words before now refusals.ScriptFailed =
     (spec script : List ℕ) × AreWords words spec script × (source : Source) × HasSource held spec source × Rose before now
 Refuses held words before now (refusals.BadLine line) =
     (spec script : List ℕ) × AreWords words spec script × (source : Source) × HasSource held spec source
-    × (text : List ℕ) × Reads held script text × IsFirstBad (lines_of text) line × (now ≡ before)
+    × (text : List ℕ) × Reads held script text × IsFirstBad text line × (now ≡ before)
 Refuses held words before now refusals.OutputFailed = ⊥
 Refuses held words before now refusals.Memory = now ≡ before
 
@@ -142,8 +155,8 @@ Ends o words (Err refusals.Memory) = IsRefused o words refusals.Memory
 abbrev pub DueByScript : Held → List ℕ → Result (Unit {0}) Refusal → Type 0
 DueByScript held script end =
     (Lacks held script × (end ≡ Err refusals.NoScript))
-    ⊎ ((text : List ℕ) × (line : ℕ) × Reads held script text × IsFirstBad (lines_of text) line × (end ≡ Err (refusals.BadLine line)))
-    ⊎ ((session bytes : List ℕ) × HasScript held script session bytes × (end ≡ Ok tt))
+    ⊎ ((text : List ℕ) × (line : ℕ) × Reads held script text × IsFirstBad text line × (end ≡ Err (refusals.BadLine line)))
+    ⊎ ((lines : List Line) × HasScript held script lines × (end ≡ Ok tt))
 
 -- the end of a replay whose source is refused
 abbrev pub refusal_of : ReadFault → Refusal
@@ -251,12 +264,11 @@ ReadsSpec held name before now (Err refusals.Memory) = now ≡ before
 ReadsSpec held name before now (Err _) = ⊥
 
 -- a script is read: its text has the form, or why it is not
-abbrev pub ReadsScript : Held → List ℕ → ℕ → ℕ → Result Script Refusal → Type 0
-ReadsScript held name before now (Ok script) =
-    (session bytes : List ℕ) × HasScript held name session bytes × (script.lines ≡ whole_input session None bytes) × (now ≡ before)
+abbrev pub ReadsScript : Held → List ℕ → ℕ → ℕ → Result OneSession Refusal → Type 0
+ReadsScript held name before now (Ok one) = (lines : List Line) × HasScript held name lines × WritesAsOne lines one.session one.bytes × (now ≡ before)
 ReadsScript held name before now (Err refusals.NoScript) = Lacks held name × (now ≡ before)
 ReadsScript held name before now (Err refusals.ScriptFailed) = Rose before now
-ReadsScript held name before now (Err (refusals.BadLine line)) = (text : List ℕ) × Reads held name text × IsFirstBad (lines_of text) line × (now ≡ before)
+ReadsScript held name before now (Err (refusals.BadLine line)) = (text : List ℕ) × Reads held name text × IsFirstBad text line × (now ≡ before)
 ReadsScript held name before now (Err refusals.Memory) = now ≡ before
 ReadsScript held name before now (Err _) = ⊥
 
@@ -301,7 +313,7 @@ abbrev pub HasCause : Outside → List (List ℕ) → Status → Type 0
 HasCause o words statuses.Done = IsDone o words × IsFaultless o
 HasCause o words statuses.Usage = AreNoWords words
 HasCause o words statuses.Source = (spec script : List ℕ) × AreWords words spec script × (fault : Fault) × HasFault o.held spec (reason.Fault fault)
-HasCause o words statuses.Script = (spec script : List ℕ) × AreWords words spec script × (text : List ℕ) × Reads o.held script text × (line : ℕ) × IsFirstBad (lines_of text) line
+HasCause o words statuses.Script = (spec script : List ℕ) × AreWords words spec script × (text : List ℕ) × Reads o.held script text × (line : ℕ) × IsFirstBad text line
 HasCause o words statuses.Outside =
     Rose o.store_before o.store ⊎ Rose o.output_before o.output ⊎ ((spec script : List ℕ) × AreWords words spec script × (Lacks o.held spec ⊎ Lacks o.held script))
 HasCause o words statuses.Memory = Unit {0}

@@ -5,7 +5,8 @@ ghost use Rattle.ragel_run.specs.Replay.{ReadsSpec, ReadsScript, WritesLines};
 use crate::refusal::Refusal;
 use rl_io::{Sink, SinkFault, Store, StoreFault};
 use rl_reading::{ReadFault, Source, read_source};
-use rl_replay::{Script, ScriptFault, read_first_form};
+use rl_replay::ScriptFault;
+use rl_script::{OneSession, read_one_session};
 use std::alloc::Global;
 
 // The source under a name.
@@ -28,7 +29,11 @@ pub fn read_spec<S: Store>(alloc: Global, name: &str, store: &mut S) -> Result<S
 }
 
 // The script under a name.
-pub fn read_script<S: Store>(alloc: Global, name: &str, store: &mut S) -> Result<Script, Refusal>
+pub fn read_script<S: Store>(
+    alloc: Global,
+    name: &str,
+    store: &mut S,
+) -> Result<OneSession, Refusal>
     ensures reads { ReadsScript (S.held store.old) name.now (S.faults store.old) (S.faults store.new) result }
     ensures same { S.held store.new ≡ S.held store.old }
 {
@@ -38,8 +43,8 @@ pub fn read_script<S: Store>(alloc: Global, name: &str, store: &mut S) -> Result
         Err(StoreFault::Failed) => return Err(Refusal::ScriptFailed),
         Err(StoreFault::Memory) => return Err(Refusal::Memory),
     };
-    match read_first_form(alloc, &text) {
-        Ok(script) => Ok(script),
+    match read_one_session(alloc, &text) {
+        Ok(one) => Ok(one),
         Err(ScriptFault::BadLine { line }) => Err(Refusal::BadLine(line)),
         Err(_) => Err(Refusal::Memory),
     }

@@ -1,16 +1,16 @@
 // The lines of a script's session over the tables of a source.
-ghost use Rattle.std.specs.Prelude.{◌≡◌, ℕ, List, None, IfOk};
+ghost use Rattle.std.specs.Prelude.{◌≡◌, List, IfOk};
 ghost use Rattle.rl_model.specs.Trees.{TestsOf};
 ghost use Rattle.rl_reading.specs.Form.{IsSource};
 ghost use Rattle.rl_reading.specs.Rewriting.{specification_of_source};
-ghost use Rattle.rl_replay.specs.Written.{whole_input};
+ghost use Rattle.rl_replay.specs.declared.script.Line.{Line};
 ghost use Rattle.rl_line.specs.SourceArrays.{source_arrays, WritesAsExpression};
-ghost use Rattle.ragel_run.specs.Replay.{prescribed};
+ghost use Rattle.ragel_run.specs.Replay.{prescribed, WritesAsOne};
 
 use crate::lines::lines_of_run;
 use rl_line::lay_source;
 use rl_reading::Source;
-use rl_replay::{Event, Line, Script};
+use rl_script::OneSession;
 use rl_tables::Tables;
 use rl_types::Memory;
 use std::alloc::Global;
@@ -28,23 +28,6 @@ fn tables_of(alloc: Global, source: &Source) -> Result<Tables, Memory>
     }
 }
 
-// The session of the script's piece, and its bytes.
-fn session_and_bytes(script: &Script) -> (&[u8], &[u8])
-    ensures { (session bytes : List ℕ) → script.now.lines ≡ whole_input session None bytes → (result.0.now ≡ session) × (result.1.now ≡ bytes) }
-{
-    match script.lines.as_slice() {
-        [
-            _,
-            Line {
-                event: Event::Piece(session, bytes),
-                ..
-            },
-            _,
-        ] => (session.bytes(), bytes.as_slice()),
-        _ => (b"", b""),
-    }
-}
-
 // The lines of a session's run over the tables of a source.
 fn lines_over(
     alloc: Global,
@@ -53,20 +36,22 @@ fn lines_over(
     bytes: &[u8],
 ) -> Result<Vec<u8>, Memory>
     requires { IsSource source.now }
-    ensures { IfOk result (λ v. (tests : TestsOf (specification_of_source source.now)) → v.items ≡ prescribed source.now tests session.now bytes.now) }
+    ensures { IfOk result (λ v. (lines : List Line) → WritesAsOne lines session.now bytes.now →
+        (tests : TestsOf (specification_of_source source.now)) → v.items ≡ prescribed source.now tests lines) }
 {
     let tables = tables_of(alloc, source)?;
     let lines = lines_of_run(alloc, &tables, session, bytes)?;
     Ok(lines)
 }
 
-// The lines that are prescribed for a source and a script.
-pub fn lines_for(alloc: Global, source: &Source, script: &Script) -> Result<Vec<u8>, Memory>
+// The lines that are prescribed for a source and a script of one session.
+pub fn lines_for(alloc: Global, source: &Source, one: &OneSession) -> Result<Vec<u8>, Memory>
     requires { IsSource source.now }
-    ensures { IfOk result (λ v. (session bytes : List ℕ) → script.now.lines ≡ whole_input session None bytes →
-        (tests : TestsOf (specification_of_source source.now)) → v.items ≡ prescribed source.now tests session bytes) }
+    ensures { IfOk result (λ v. (lines : List Line) → WritesAsOne lines one.now.session one.now.bytes →
+        (tests : TestsOf (specification_of_source source.now)) → v.items ≡ prescribed source.now tests lines) }
 {
-    let (session, bytes) = session_and_bytes(script);
+    let session = one.session.bytes();
+    let bytes = one.bytes.as_slice();
     let lines = lines_over(alloc, source, session, bytes)?;
     Ok(lines)
 }

@@ -50,6 +50,34 @@ const SEVERAL: Row = Row {
     ..RAN
 };
 
+const NO_PIECE: Row = Row {
+    files: [("one.rl", ONE), ("t", "open s\nend s\n")],
+    out: "s end partial 0\n",
+    ..RAN
+};
+
+const TWO_PIECES: Row = Row {
+    files: [
+        (
+            "m.rl",
+            "%%{ machine m; action x { } action y { } main := 'a' $x . \"b\\n\" $(y) 'c'; }%%",
+        ),
+        ("t", "open s\npiece s \"a\"\npiece s \"b\\n\\x63\"\nend s\n"),
+    ],
+    words: &["m.rl", "t"],
+    out: "s do x 0\ns do y 1\ns do y 2\ns end final 4\n",
+    ..RAN
+};
+
+const STOPPED_FOR_GOOD: Row = Row {
+    files: [
+        ("one.rl", ONE),
+        ("t", "open s\npiece s \"ac\"\npiece s \"ab\"\nend s\n"),
+    ],
+    out: "s do x 0\ns stop error 1\ns end error 1\n",
+    ..RAN
+};
+
 const NOT_BUILT: Row = Row {
     files: [
         ("m.rl", "%%{ machine m; main := 'a' | 'b'; }%%"),
@@ -128,6 +156,18 @@ const BAD_LINE: Row = Row {
     out: "",
     err: "t:1: bad line\n",
     ..RAN
+};
+
+const COMMENT: Row = Row {
+    files: [("one.rl", ONE), ("t", "open s\n# a comment\nend s\n")],
+    err: "t:2: bad line\n",
+    ..BAD_LINE
+};
+
+const NO_END: Row = Row {
+    files: [("one.rl", ONE), ("t", "open s\npiece s \"a\"\n")],
+    err: "t:3: bad line\n",
+    ..BAD_LINE
 };
 
 const MISSING: Row = Row {
@@ -224,6 +264,9 @@ fn rows_come(rt: HostRuntime) -> Result<(), Fail> {
         &RAN,
         &STOPPED,
         &SEVERAL,
+        &NO_PIECE,
+        &TWO_PIECES,
+        &STOPPED_FOR_GOOD,
         &NOT_BUILT,
         &NO_MACHINE,
         &NO_ACTION,
@@ -232,6 +275,8 @@ fn rows_come(rt: HostRuntime) -> Result<(), Fail> {
         &WRONG_START,
         &TOO_DEEP,
         &BAD_LINE,
+        &COMMENT,
+        &NO_END,
         &MISSING,
         &STORE_FAILED,
         &OUTPUT_FAILED,
