@@ -258,15 +258,29 @@ fn comes(alloc: Global, row: &Row) -> Result<bool, Fail> {
 }
 
 #[test]
-fn rows_come(rt: HostRuntime) -> Result<(), Fail> {
+fn scripts_come(rt: HostRuntime) -> Result<(), Fail> {
     let alloc = rt.alloc();
     let rows = [
         &RAN,
         &STOPPED,
-        &SEVERAL,
         &NO_PIECE,
         &TWO_PIECES,
         &STOPPED_FOR_GOOD,
+        &BAD_LINE,
+        &COMMENT,
+        &NO_END,
+    ];
+    for row in rows {
+        assert!(rt; comes(alloc, row)?, "{}", row.err);
+    }
+    Ok(())
+}
+
+#[test]
+fn sources_come(rt: HostRuntime) -> Result<(), Fail> {
+    let alloc = rt.alloc();
+    let rows = [
+        &SEVERAL,
         &NOT_BUILT,
         &NO_MACHINE,
         &NO_ACTION,
@@ -274,15 +288,17 @@ fn rows_come(rt: HostRuntime) -> Result<(), Fail> {
         &WRONG_SIGN,
         &WRONG_START,
         &TOO_DEEP,
-        &BAD_LINE,
-        &COMMENT,
-        &NO_END,
-        &MISSING,
-        &STORE_FAILED,
-        &OUTPUT_FAILED,
-        &NO_WORDS,
-        &PRINTED,
     ];
+    for row in rows {
+        assert!(rt; comes(alloc, row)?, "{}", row.err);
+    }
+    Ok(())
+}
+
+#[test]
+fn failures_come(rt: HostRuntime) -> Result<(), Fail> {
+    let alloc = rt.alloc();
+    let rows = [&MISSING, &STORE_FAILED, &OUTPUT_FAILED, &NO_WORDS, &PRINTED];
     for row in rows {
         assert!(rt; comes(alloc, row)?, "{}", row.err);
     }
