@@ -1,0 +1,7 @@
+pub mod StateCounts
+pub mod CellLaws
+pub mod SiteLaws
+pub mod NodeLaws
+pub mod AnswerLaws
+pub mod EntryLaws
+pub mod TwinLaws

@@ -1,0 +1,6 @@
+pub mod Cells
+pub mod Adds
+pub mod Nodes
+pub mod Trees
+pub mod Roots
+pub mod Entries

@@ -1,0 +1,18 @@
+//! The machines of a specification's entries, built from their expressions.
+#![tactic(auto)]
+
+mod built;
+mod cells;
+mod counting;
+mod entries;
+mod fault;
+mod leaves;
+mod node;
+mod pairing;
+#[cfg(test)]
+mod tests;
+mod walk;
+
+pub use entries::build;
+pub use fault::BuildRefusal;
+pub use rl_ops::BuildFault;
