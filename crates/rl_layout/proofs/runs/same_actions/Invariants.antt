@@ -1,0 +1,9 @@
+use Rattle.std.proofs.Common.{◌≡◌, length}
+use Rattle.rl_layout.specs.Runs.{same_actions}
+use Rattle.rl_layout.proofs.runs.same_actions.Given as goal
+
+abbrev pub invariant-loop-xs : goal.invariant-loop-xs
+invariant-loop-xs l = same_actions l.left l.right ≡ same_actions l.xs l.ys
+
+abbrev pub decreases-loop-xs : goal.decreases-loop-xs
+decreases-loop-xs l = length l.xs

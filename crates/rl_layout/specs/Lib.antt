@@ -1,0 +1,10 @@
+pub mod Runs
+pub mod Cells
+pub mod Told
+pub mod Books
+pub mod StateArrays
+pub mod SpecArrays
+pub mod Layout
+pub mod Goals
+pub mod Fits
+pub mod Shown

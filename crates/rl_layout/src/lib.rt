@@ -1,0 +1,13 @@
+//! The tables of a machine: its arrays, laid out state by state.
+#![tactic(auto)]
+
+mod books;
+mod cells;
+mod lay;
+mod lists;
+mod names;
+mod runs;
+mod statements;
+mod states;
+
+pub use lay::layout;
