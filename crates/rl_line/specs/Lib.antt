@@ -1,5 +1,0 @@
-pub mod Elements
-pub mod Layout
-pub mod LineArrays
-pub mod Parts
-pub mod SourceArrays

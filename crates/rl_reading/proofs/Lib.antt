@@ -1,9 +1,0 @@
-pub mod CharacterLaws
-pub mod NameLaws
-pub mod ResultLaws
-pub mod StatementLaws
-pub mod TokenForms
-pub mod TokenLists
-pub mod TreeLaws
-pub mod ReadingLaws
-pub mod Forms

@@ -1,6 +1,0 @@
-use Rattle.std.proofs.Common.{take}
-use Rattle.rl_reading.specs.Reading.{AreTrees}
-use Rattle.rl_reading.proofs.read.trees.Given as goal
-
-abbrev pub invariant-loop-block : goal.invariant-loop-block
-invariant-loop-block l = AreTrees (take l.block-index l.blocks) l.found

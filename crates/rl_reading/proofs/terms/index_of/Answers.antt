@@ -1,6 +1,0 @@
-use Rattle.std.proofs.Common.{◌∙◌}
-use Rattle.rl_reading.proofs.NameLaws.{position_text}
-use Rattle.rl_reading.proofs.terms.index_of.Goals as goal
-
-pub returns : goal.returns
-returns c = c.get_index_of.ensures.index ∙ position_text c.args.name.now c.args.names.now.keys
