@@ -1,0 +1,9 @@
+pub mod DigitLaws
+pub mod ResultLaws
+pub mod EventLaws
+pub mod TableLaws
+pub mod FrameLaws
+pub mod NamesChecked
+pub mod LevelLaws
+pub mod RefusedLaws
+pub mod AddLaws

@@ -1,0 +1,164 @@
+-- The names of a source, in text order: the first one that is not defined earlier, that is defined twice, or that is one
+-- too many.
+use Rattle.std.specs.Prelude.{ℕ, ◌+◌, Bool, false, not, ◌&&◌, ◌||◌, nat_lt, if◌then◌else◌, List, [], ◌∷◌, ◌++◌, Option, Some, None, is_some, unwrap_or}
+use Rattle.std.specs.Map.{lookup}
+use Rattle.std.specs.List.{flat_map, list_any}
+use Rattle.std.specs.Str.{bytes_eq}
+use Rattle.rl_types.specs.declared.faults.FaultKind.TheVariants.{F5, F6}
+use Rattle.rl_types.specs.declared.faults.LimitKind.TheVariants.{L9}
+use Rattle.rl_types.specs.declared.numbers.Place.{Place}
+use Rattle.rl_grammar.specs.declared.read_fault.ReadFault.{ReadFault}
+use Rattle.rl_grammar.specs.declared.read_fault.ReadFault.TheVariants as reason
+use Rattle.rl_grammar.specs.declared.syntax.Action.{Action}
+use Rattle.rl_grammar.specs.declared.syntax.Definition.{Definition}
+use Rattle.rl_grammar.specs.declared.syntax.Statement.{Statement}
+use Rattle.rl_grammar.specs.declared.syntax.Statement.TheVariants as statement
+use Rattle.rl_grammar.specs.declared.syntax.Word.{Word}
+use Rattle.rl_grammar.specs.declared.syntax.WriteKind.{WriteKind}
+use Rattle.rl_grammar.specs.declared.syntax.WriteKind.TheVariants as written
+use Rattle.rl_names.specs.Answers.{or_else}
+use Rattle.rl_names.specs.Events.{Event, Found, union_events}
+use Rattle.rl_names.specs.Events as event
+use Rattle.rl_names.specs.Leaves.{is_built_in}
+use Rattle.rl_names.specs.Values.{scanner_of}
+use Rattle.rl_steps.specs.declared.step.Step.{Step}
+
+-- a name of a machine: the machine's own, and this one
+abbrev pub Named : Type 0
+Named = List ℕ × List ℕ
+
+abbrev pub same : Named → Named → Bool
+same p q = bytes_eq p.0 q.0 && bytes_eq p.1 q.1
+
+abbrev pub is_among : List ℕ → List ℕ → List Named → Bool
+is_among machine name all = list_any (same (machine, name)) all
+
+-- what is said of a name where it stands first
+abbrev pub said_of : {A : Type 0} → Named → List (Named × A) → Option A
+said_of p all = lookup (same p) all
+
+-- ---- what statements define
+
+-- The name that a statement defines, and whether expressions may use it: a scanner has its name for the entry alone.
+abbrev pub defined_by : List ℕ → Statement → List (Named × Bool)
+defined_by machine (statement.Definition d) = ((machine, d.name.text), not (is_some (scanner_of d.value))) ∷ []
+defined_by machine _ = []
+
+abbrev pub action_by : List ℕ → Statement → List Named
+action_by machine (statement.Action a) = (machine, a.name.text) ∷ []
+action_by machine _ = []
+
+-- the data of a machine, which are written once
+abbrev pub data_by : List ℕ → WriteKind → List (List ℕ)
+data_by machine (written.Data place) = machine ∷ []
+data_by machine (written.Init place) = []
+data_by machine (written.Exec place) = []
+
+abbrev pub written_by : List ℕ → Statement → List (List ℕ)
+written_by machine (statement.Write w) = data_by machine w.what
+written_by machine _ = []
+
+-- what is defined by statements, those of all machines
+pub record Known : Type 0 where
+  pub defined : List (Named × Bool)
+  pub actions : List Named
+  pub written : List (List ℕ)
+
+abbrev pub known : List Step → Known
+known steps = record {
+  defined = flat_map (λ s. defined_by s.machine s.statement) steps;
+  actions = flat_map (λ s. action_by s.machine s.statement) steps;
+  written = flat_map (λ s. written_by s.machine s.statement) steps;
+}
+
+-- ---- how many names there are
+
+abbrev pub is_code : Event → ℕ
+is_code (event.Code w) = 1
+is_code _ = 0
+
+abbrev pub codes_in : Found → ℕ
+codes_in [] = 0
+codes_in (e ∷ es) = is_code e + codes_in es
+
+abbrev pub names_by : Statement → ℕ
+names_by (statement.Definition d) = 1 + codes_in (union_events d.value)
+names_by (statement.Action a) = 1
+names_by _ = 0
+
+-- the names of a machine: definitions, instantiations and actions, those without a name of their own included
+abbrev pub names_of : List ℕ → List Step → ℕ
+names_of machine [] = 0
+names_of machine (s ∷ ss) = (if bytes_eq machine s.machine then names_by s.statement else 0) + names_of machine ss
+
+-- ---- faults
+
+abbrev pub unknown : Place → ReadFault
+unknown place = reason.Fault (record { kind = F5; place = place })
+
+abbrev pub twice : Place → ReadFault
+twice place = reason.Fault (record { kind = F6; place = place })
+
+abbrev pub too_many : Place → ReadFault
+too_many place = reason.Limit (record { kind = L9; place = place })
+
+abbrev pub unless : Bool → ReadFault → Option ReadFault
+unless good fault = if good then None else Some fault
+
+-- a name behind n others, of which a machine has 65,535 at most
+abbrev pub counted : ℕ → Place → Option ReadFault
+counted n place = unless (nat_lt n 65535) (too_many place)
+
+-- an expression that is used is defined earlier, or is built in
+abbrev pub expression_fault : Known → List ℕ → Word → Option ReadFault
+expression_fault k machine w = unless (is_built_in w.text || unwrap_or (said_of (machine, w.text) k.defined) false) (unknown w.place)
+
+-- an action that is used is defined earlier
+abbrev pub embedded_fault : Known → List ℕ → Word → Option ReadFault
+embedded_fault k machine w = unless (is_among machine w.text k.actions) (unknown w.place)
+
+-- what an expression of the machine uses behind n names
+abbrev pub use_fault : Known → List ℕ → ℕ → Event → Option ReadFault
+use_fault k machine n (event.Name w) = expression_fault k machine w
+use_fault k machine n (event.Action w) = embedded_fault k machine w
+use_fault k machine n (event.Code w) = counted n w.place
+use_fault k machine n _ = None
+
+-- the first fault of what is used behind n names
+abbrev pub uses_fault : Known → List ℕ → ℕ → Found → Option ReadFault
+uses_fault k machine n [] = None
+uses_fault k machine n (e ∷ es) = or_else (use_fault k machine n e) (uses_fault k machine (n + is_code e) es)
+
+-- a name of an expression is new, and none of those that are built in
+abbrev pub name_fault : Known → List ℕ → Word → Option ReadFault
+name_fault k machine w = unless (not (is_built_in w.text || is_some (said_of (machine, w.text) k.defined))) (twice w.place)
+
+abbrev pub definition_fault : Known → List ℕ → ℕ → Definition → Option ReadFault
+definition_fault k machine n d =
+    or_else (name_fault k machine d.name) (or_else (counted n d.name.place) (uses_fault k machine (n + 1) (union_events d.value)))
+
+abbrev pub action_fault : Known → List ℕ → ℕ → Action → Option ReadFault
+action_fault k machine n a = or_else (unless (not (is_among machine a.name.text k.actions)) (twice a.name.place)) (counted n a.name.place)
+
+abbrev pub data_fault : Known → List ℕ → Place → WriteKind → Option ReadFault
+data_fault k machine start (written.Data place) = unless (not (list_any (bytes_eq machine) k.written)) (twice start)
+data_fault k machine start (written.Init place) = None
+data_fault k machine start (written.Exec place) = None
+
+abbrev pub statement_fault : Known → List ℕ → ℕ → Statement → Option ReadFault
+statement_fault k machine n (statement.Definition d) = definition_fault k machine n d
+statement_fault k machine n (statement.Action a) = action_fault k machine n a
+statement_fault k machine n (statement.Write w) = data_fault k machine w.start w.what
+statement_fault k machine n _ = None
+
+-- the fault of a step behind others
+abbrev pub step_fault : List Step → Step → Option ReadFault
+step_fault before s = statement_fault (known before) s.machine (names_of s.machine before) s.statement
+
+-- the first fault of names of steps that stand behind others
+abbrev pub faults_behind : List Step → List Step → Option ReadFault
+faults_behind before [] = None
+faults_behind before (s ∷ ss) = or_else (step_fault before s) (faults_behind (before ++ s ∷ []) ss)
+
+abbrev pub names_fault : List Step → Option ReadFault
+names_fault steps = faults_behind [] steps

@@ -1,0 +1,34 @@
+//! The names of a source: its first faults, and one draft for each machine, in which names are numbers.
+#![tactic(auto)]
+
+mod actions;
+mod alone;
+mod base;
+mod checks;
+mod code;
+mod definitions;
+mod events;
+mod expressions;
+mod frames;
+mod leaves;
+mod levels;
+mod machines;
+mod memory;
+mod names;
+mod numbers;
+mod places;
+mod priorities;
+mod puts;
+mod scope;
+mod tables;
+mod texts;
+mod used;
+mod values;
+
+pub use checks::{check_built, check_leaves};
+pub use machines::{drafts, machine_names};
+pub use memory::NameFault;
+pub use names::check_names;
+
+#[cfg(test)]
+mod tests;

@@ -1,0 +1,250 @@
+// The first fault of names, in text order.
+ghost use Rattle.std.specs.Prelude.{◌≡◌, ◌+◌, ℕ, List, [], None, Some, map, MatchResult, OnOk, unwrap_or, false};
+ghost use Rattle.rl_grammar.specs.declared.syntax.Statement.TheVariants as statement;
+ghost use Rattle.rl_names.specs.Answers.{Told, Tells, Shows};
+ghost use Rattle.rl_names.specs.Events.{seen as shown, union_events};
+ghost use Rattle.rl_names.specs.Names as names;
+ghost use Rattle.rl_names.specs.TableForms.{count_in};
+ghost use Rattle.rl_names.specs.Tables.{seen, Notes};
+
+use crate::events::{Event, events_of};
+use crate::memory::{NameFault, fault_at};
+use crate::tables::{Tables, add, add_text, count_of, define, is_among, said_of, set_count};
+use crate::texts::has;
+use crate::values::scanner_of;
+use indexmap::{IndexMap, IndexSet};
+use rl_grammar::ReadFault;
+use rl_grammar::syntax::{Action, Definition, Statement, Union, Word, Write, WriteKind};
+use rl_leaves::is_built_in;
+use rl_steps::Step;
+use rl_types::{FaultKind, Limit, LimitKind, Place};
+use std::alloc::Global;
+
+/// The names that a machine may have.
+const MOST_NAMES: u32 = 65535;
+
+/// How many names there are with one more, behind others.
+fn counted(count: u32, place: Place) -> Result<u32, ReadFault>
+    ensures { MatchResult result (λ n. (names.counted count place ≡ None) × (n ≡ count + 1)) (λ e. names.counted count place ≡ Some e) }
+{
+    if count < MOST_NAMES {
+        Ok(count + 1)
+    } else {
+        Err(ReadFault::Limit(Limit {
+            kind: LimitKind::L9,
+            place,
+        }))
+    }
+}
+
+fn is_usable(tables: &Tables<'_>, machine: &[u8], name: &[u8]) -> bool
+    ensures { result ≡ unwrap_or (names.said_of (machine.now, name.now) (seen tables.now).defined) false }
+{
+    match said_of(&tables.defined, machine, name) {
+        Some(usable) => usable,
+        None => false,
+    }
+}
+
+/// An expression that is used is defined earlier.
+fn expression(tables: &Tables<'_>, machine: &[u8], word: &Word) -> Result<(), ReadFault>
+    ensures { Shows (names.expression_fault (seen tables.now) machine.now word.now) result }
+{
+    let name = word.text.as_slice();
+    if is_built_in(name) || is_usable(tables, machine, name) {
+        Ok(())
+    } else {
+        Err(fault_at(FaultKind::F5, word.place))
+    }
+}
+
+/// An action that is used is defined earlier.
+fn embedded(tables: &Tables<'_>, machine: &[u8], word: &Word) -> Result<(), ReadFault>
+    ensures { Shows (names.embedded_fault (seen tables.now) machine.now word.now) result }
+{
+    if is_among(&tables.actions, machine, word.text.as_slice()) {
+        Ok(())
+    } else {
+        Err(fault_at(FaultKind::F5, word.place))
+    }
+}
+
+/// How many names there are behind one of the things that an expression uses.
+fn used(
+    tables: &Tables<'_>,
+    machine: &[u8],
+    count: u32,
+    event: &Event<'_>,
+) -> Result<u32, ReadFault>
+    ensures { MatchResult result (λ n. (names.use_fault (seen tables.now) machine.now count (shown event.now) ≡ None) × (n ≡ count + names.is_code (shown event.now)))
+        (λ e. names.use_fault (seen tables.now) machine.now count (shown event.now) ≡ Some e) }
+{
+    match event {
+        Event::Name(word) => {
+            expression(tables, machine, word)?;
+            Ok(count)
+        }
+        Event::Action(word) => {
+            embedded(tables, machine, word)?;
+            Ok(count)
+        }
+        Event::Code(word) => counted(count, word.place),
+        Event::Leaf(_) | Event::Priority(_) | Event::When(_) | Event::Scan(_) => Ok(count),
+    }
+}
+
+/// How many names there are behind all that an expression uses.
+fn all_used(
+    tables: &Tables<'_>,
+    machine: &[u8],
+    count: u32,
+    events: &[Event<'_>],
+) -> Result<u32, ReadFault>
+    ensures { MatchResult result (λ n. (names.uses_fault (seen tables.now) machine.now count (map shown events.now) ≡ None) × (n ≡ count + names.codes_in (map shown events.now)))
+        (λ e. names.uses_fault (seen tables.now) machine.now count (map shown events.now) ≡ Some e) }
+{
+    let mut behind = count;
+    for event in events {
+        behind = used(tables, machine, behind, event)?;
+    }
+    Ok(behind)
+}
+
+/// How many names there are behind an expression.
+fn value_used(
+    alloc: Global,
+    tables: &Tables<'_>,
+    machine: &[u8],
+    count: u32,
+    value: &Union,
+) -> Result<u32, ReadFault>
+    ensures { MatchResult result (λ n. (names.uses_fault (seen tables.now) machine.now count (union_events value.now) ≡ None) × (n ≡ count + names.codes_in (union_events value.now)))
+        (Told (names.uses_fault (seen tables.now) machine.now count (union_events value.now))) }
+{
+    let events = events_of(alloc, value)?;
+    all_used(tables, machine, count, events.as_slice())
+}
+
+/// A name of an expression is new, and not built in.
+fn fresh(tables: &Tables<'_>, machine: &[u8], word: &Word) -> Result<(), ReadFault>
+    ensures due { Shows (names.name_fault (seen tables.now) machine.now word.now) result }
+    ensures absent { OnOk result (names.said_of (machine.now, word.now.text) (seen tables.now).defined ≡ None) }
+{
+    let name = word.text.as_slice();
+    if is_built_in(name) {
+        return Err(fault_at(FaultKind::F6, word.place));
+    }
+    match said_of(&tables.defined, machine, name) {
+        Some(_) => Err(fault_at(FaultKind::F6, word.place)),
+        None => Ok(()),
+    }
+}
+
+fn definition<'a>(
+    alloc: Global,
+    tables: &mut Tables<'a>,
+    machine: &'a [u8],
+    definition: &'a Definition,
+) -> Result<(), ReadFault>
+    ensures { Notes (names.definition_fault (seen tables.old) machine.now (count_in machine.now tables.old.counts) definition.now) machine.now (statement.Definition definition.now) tables.old tables.new result }
+{
+    fresh(tables, machine, &definition.name)?;
+    let count = counted(count_of(&tables.counts, machine), definition.name.place)?;
+    let count = value_used(alloc, tables, machine, count, &definition.value)?;
+    let usable = scanner_of(&definition.value).is_none();
+    define(
+        &mut tables.defined,
+        machine,
+        definition.name.text.as_slice(),
+        usable,
+    )?;
+    set_count(&mut tables.counts, machine, count)
+}
+
+fn action<'a>(
+    tables: &mut Tables<'a>,
+    machine: &'a [u8],
+    action: &'a Action,
+) -> Result<(), ReadFault>
+    ensures { Notes (names.action_fault (seen tables.old) machine.now (count_in machine.now tables.old.counts) action.now) machine.now (statement.Action action.now) tables.old tables.new result }
+{
+    if is_among(&tables.actions, machine, action.name.text.as_slice()) {
+        return Err(fault_at(FaultKind::F6, action.name.place));
+    }
+    let count = counted(count_of(&tables.counts, machine), action.name.place)?;
+    add(&mut tables.actions, machine, action.name.text.as_slice())?;
+    set_count(&mut tables.counts, machine, count)
+}
+
+fn data<'a>(tables: &mut Tables<'a>, machine: &'a [u8], write: &'a Write) -> Result<(), ReadFault>
+    ensures { Notes (names.data_fault (seen tables.old) machine.now write.now.start write.now.what) machine.now (statement.Write write.now) tables.old tables.new result }
+{
+    match write.what {
+        WriteKind::Init(_) | WriteKind::Exec(_) => Ok(()),
+        WriteKind::Data(_) => {
+            if has(&tables.written, machine) {
+                return Err(fault_at(FaultKind::F6, write.start));
+            }
+            add_text(&mut tables.written, machine)
+        }
+    }
+}
+
+fn statement<'a>(
+    alloc: Global,
+    tables: &mut Tables<'a>,
+    machine: &'a [u8],
+    statement: &'a Statement,
+) -> Result<(), ReadFault>
+    ensures { Notes (names.statement_fault (seen tables.old) machine.now (count_in machine.now tables.old.counts) statement.now) machine.now statement.now tables.old tables.new result }
+{
+    match statement {
+        Statement::Definition(one) => definition(alloc, tables, machine, one),
+        Statement::Action(one) => action(tables, machine, one),
+        Statement::Write(one) => data(tables, machine, one),
+        Statement::Machine(_)
+        | Statement::Include(_)
+        | Statement::Alphtype(_)
+        | Statement::Access(_)
+        | Statement::Variable(_) => Ok(()),
+    }
+}
+
+fn check<'a>(alloc: Global, tables: &mut Tables<'a>, step: &'a Step) -> Result<(), ReadFault>
+    ensures { Notes (names.statement_fault (seen tables.old) step.now.machine (count_in step.now.machine tables.old.counts) step.now.statement) step.now.machine step.now.statement tables.old tables.new result }
+{
+    statement(alloc, tables, step.machine.bytes(), &step.statement)
+}
+
+fn no_tables<'a>(alloc: Global) -> Tables<'a>
+    ensures known { seen result ≡ names.known [] }
+    ensures counts { (x : List ℕ) → count_in x result.counts ≡ 0 }
+{
+    let defined = IndexMap::new(alloc);
+    let actions = IndexSet::new(alloc);
+    let written = IndexSet::new(alloc);
+    let counts = IndexMap::new(alloc);
+    Tables {
+        defined,
+        actions,
+        written,
+        counts,
+    }
+}
+
+/// Whether the names of a source are good; the error is the first fault of them in text order.
+///
+/// F5 stands at the name of an expression (2.1.2) or of an action (chapter 3) that is used and not defined earlier for its
+/// machine, or that names a scanner; F6 at a name that is defined twice for one machine or is built in, and at a machine's
+/// second `write data` (this profile); L9 at the first name of a machine behind 65,535 others, an action without a name
+/// counted at its `{` (this profile). Of one definition F6 at its name comes first, then L9 at its name, then what its
+/// expression uses. Memory may be wanted at any time.
+pub fn check_names(alloc: Global, steps: &[Step]) -> Result<(), NameFault>
+    ensures { Tells (names.names_fault steps.now) result }
+{
+    let mut tables = no_tables(alloc);
+    for step in steps {
+        check(alloc, &mut tables, step)?;
+    }
+    Ok(())
+}

@@ -1,0 +1,111 @@
+// What is defined so far, by names.
+ghost use Rattle.std.specs.Prelude.{◌≡◌, ℕ, List, [], ◌∷◌, ◌++◌, None, if◌then◌else◌, false, MatchResult};
+ghost use Rattle.std.specs.List.{list_any};
+ghost use Rattle.std.specs.Str.{bytes_eq};
+ghost use Rattle.rl_grammar.specs.declared.read_fault.ReadFault.TheVariants as reason;
+ghost use Rattle.rl_names.specs.Names.{said_of, is_among};
+ghost use Rattle.rl_names.specs.TableForms.{texts, pairs, entries, count_in};
+
+use indexmap::{IndexMap, IndexSet};
+use rl_grammar::ReadFault;
+
+/// A machine's name, and a name that it has.
+pub type Named<'a> = (&'a [u8], &'a [u8]);
+
+/// The names of expressions, and whether other expressions may use them.
+pub type Defined<'a> = IndexMap<Named<'a>, bool>;
+
+/// What is defined so far, of all machines.
+#[derive(Drop)]
+pub struct Tables<'a> {
+    pub defined: Defined<'a>,
+    /// The names of actions.
+    pub actions: IndexSet<Named<'a>>,
+    /// The machines whose data are written.
+    pub written: IndexSet<&'a [u8]>,
+    /// How many names a machine has.
+    pub counts: IndexMap<&'a [u8], u32>,
+}
+
+/// What is said of a name of an expression.
+pub fn said_of(table: &Defined<'_>, machine: &[u8], name: &[u8]) -> Option<bool>
+    ensures { result ≡ said_of (machine.now, name.now) (entries table.now) }
+{
+    match table.get(&(machine, name)) {
+        Some(usable) => Some(*usable),
+        None => None,
+    }
+}
+
+/// Notes a name of an expression.
+pub fn define<'a>(
+    table: &mut Defined<'a>,
+    machine: &'a [u8],
+    name: &'a [u8],
+    usable: bool,
+) -> Result<(), ReadFault>
+    requires { said_of (machine.now, name.now) (entries table.old) ≡ None }
+    ensures { MatchResult result (λ _. entries table.new ≡ entries table.old ++ (((machine.now, name.now), usable) ∷ [])) (λ e. e ≡ reason.Memory) }
+{
+    match table.insert((machine, name), usable) {
+        Ok(_) => Ok(()),
+        Err(_) => Err(ReadFault::Memory),
+    }
+}
+
+/// Whether an action is defined.
+pub fn is_among(table: &IndexSet<Named<'_>>, machine: &[u8], name: &[u8]) -> bool
+    ensures { result ≡ is_among machine.now name.now (pairs table.now) }
+{
+    table.contains(&(machine, name))
+}
+
+/// Notes an action.
+pub fn add<'a>(
+    table: &mut IndexSet<Named<'a>>,
+    machine: &'a [u8],
+    name: &'a [u8],
+) -> Result<(), ReadFault>
+    requires { is_among machine.now name.now (pairs table.old) ≡ false }
+    ensures { MatchResult result (λ _. pairs table.new ≡ pairs table.old ++ ((machine.now, name.now) ∷ [])) (λ e. e ≡ reason.Memory) }
+{
+    match table.insert((machine, name)) {
+        Ok(_) => Ok(()),
+        Err(_) => Err(ReadFault::Memory),
+    }
+}
+
+/// Notes a text.
+pub fn add_text<'a>(table: &mut IndexSet<&'a [u8]>, text: &'a [u8]) -> Result<(), ReadFault>
+    requires { list_any (bytes_eq text.now) (texts table.old) ≡ false }
+    ensures { MatchResult result (λ _. texts table.new ≡ texts table.old ++ (text.now ∷ [])) (λ e. e ≡ reason.Memory) }
+{
+    match table.insert(text) {
+        Ok(_) => Ok(()),
+        Err(_) => Err(ReadFault::Memory),
+    }
+}
+
+/// How many names a machine has.
+pub fn count_of(table: &IndexMap<&[u8], u32>, machine: &[u8]) -> u32
+    ensures { result ≡ count_in machine.now table.now }
+{
+    match table.get(machine) {
+        Some(count) => *count,
+        None => 0,
+    }
+}
+
+/// Notes how many names a machine has.
+pub fn set_count<'a>(
+    table: &mut IndexMap<&'a [u8], u32>,
+    machine: &'a [u8],
+    count: u32,
+) -> Result<(), ReadFault>
+    ensures { MatchResult result (λ _. (x : List ℕ) → count_in x table.new ≡ (if bytes_eq x machine.now then count else count_in x table.old)) (λ e. e ≡ reason.Memory) }
+{
+    match table.insert(machine, count) {
+        Ok(_) => Ok(()),
+        Err(_) => Err(ReadFault::Memory),
+    }
+}
