@@ -1,0 +1,214 @@
+-- The sets of what a draft's definitions stand for.
+use Rattle.std.proofs.Common.{◌≡◌, ℕ, zero, suc, ◌++◌, Bool, true, false, cond, List, [], ◌∷◌, map, Option, Some, None, refl, ap, sym, subst, ◌∙◌}
+use Rattle.std.specs.Prelude.{All, slice_get, option_to_list}
+use Rattle.std.specs.List.{flat_map}
+use Rattle.std.proofs.lemmas.List.Elements.{All-nil, All-cons, All-append, All-head, All-tail}
+use Rattle.rl_types.specs.declared.alphabet.Alphabet.{Alphabet}
+use Rattle.rl_types.specs.declared.numbers.Place.{Place}
+use Rattle.rl_types.specs.KeyRange.{Range}
+use Rattle.rl_draft.specs.declared.expression.Expression.{Expression}
+use Rattle.rl_draft.specs.declared.expression.Expression.TheOpen.{Expression-F, Link-F}
+use Rattle.rl_draft.specs.declared.expression.Expression.TheOpen as level
+use Rattle.rl_draft.specs.declared.expression.Expression.TheFolds.{fold-Link, fold-roll-Expression, fold-roll-Link, map-Expression, ind-Expression}
+use Rattle.rl_draft.specs.declared.expression.Link.{Link}
+use Rattle.rl_draft.specs.declared.expression.Leaf.{Leaf}
+use Rattle.rl_draft.specs.declared.expression.Leaf.TheVariants as leaf
+use Rattle.rl_draft.specs.declared.expression.Item.{Item}
+use Rattle.rl_draft.specs.declared.expression.Join.{Join}
+use Rattle.rl_draft.specs.declared.expression.Join.TheVariants as join
+use Rattle.rl_draft.specs.declared.expression.Repetition.{Repetition}
+use Rattle.rl_draft.specs.declared.expression.Repetition.TheVariants as repetition
+use Rattle.rl_draft.specs.declared.expression.Negation.{Negation}
+use Rattle.rl_draft.specs.declared.expression.Negation.TheVariants as negation
+use Rattle.rl_rewrite.specs.Plain as p
+use Rattle.rl_rewrite.specs.Plain.{Plain, Operand, any, joined, repeated, all_repeated, all_negated, whole, item, character, starred, behind, row, leaf_plain, chained, named, no_place, expression_step, link_step, plain, operand, value_plain, plains_behind, plains}
+use Rattle.rl_rewrite.specs.Drafts as drafts
+use Rattle.rl_rewrite.specs.Drafts.{Sets, leaf_sets, sets, expressions, IsSet, HasSetsInForm}
+use Rattle.rl_rewrite.proofs.SetLaws.{AreSets, walk_sets}
+use Rattle.rl_rewrite.proofs.EntryLaws.{all_map}
+use Rattle.rl_types.specs.declared.alphabet.Alphabet.TheVariants as alphabets
+use Rattle.rl_types.specs.declared.numbers.ActionId.{ActionId}
+use Rattle.rl_automata.specs.Refused.{sets_in}
+use Rattle.rl_model.specs.declared.spec.Entry as rust
+use Rattle.rl_model.specs.Specification.{root_of}
+use Rattle.rl_model.specs.Counts.{trees_of}
+use Rattle.rl_model.specs.WellFormed.{IsInAlphabet}
+use Rattle.rl_draft.specs.declared.draft.Definition.{Definition}
+use Rattle.rl_draft.specs.declared.draft.Draft.{Draft}
+use Rattle.rl_draft.specs.declared.draft.Value.{Value}
+use Rattle.rl_draft.specs.declared.draft.Value.TheVariants as value
+use Rattle.rl_rewrite.specs.Walk.{walk, begun}
+use Rattle.rl_rewrite.specs.Entries.{Made, Meaning, made_of, meaning, meanings, meanings_of, is_entry, entry, entries, made_by, conditions_by}
+
+all_left : {X : Type 0} (P : X → Type 0) (xs ys : List X) → All P (xs ++ ys) → All P xs
+all_left P [] ys h = All-nil P
+all_left P (x ∷ xs) ys h = All-cons P x xs (All-head P x (xs ++ ys) h) (all_left P xs ys (All-tail P x (xs ++ ys) h))
+
+all_right : {X : Type 0} (P : X → Type 0) (xs ys : List X) → All P (xs ++ ys) → All P ys
+all_right P [] ys h = h
+all_right P (x ∷ xs) ys h = all_right P xs ys (All-tail P x (xs ++ ys) h)
+
+abbrev link_parts : Link → Sets
+link_parts = fold-Link Sets Sets drafts.level_sets drafts.link_sets
+
+module _ (alphabet : Alphabet) (P : List Range → Type 0) (h_any : P (any alphabet)) where
+  joined_sets : (j : Join) (a b : Plain) (at : Place) → AreSets P a → AreSets P b → AreSets P (joined alphabet j a b at)
+  joined_sets join.Union a b at h g = (h, g)
+  joined_sets join.Intersection a b at h g = (h, g)
+  joined_sets join.Difference a b at h g = (h, g)
+  joined_sets join.StrongDifference a b at h g = (h, ((h_any, g), h_any))
+  joined_sets join.Concatenation a b at h g = (h, g)
+  joined_sets join.LeftGuarded a b at h g = (h, g)
+  joined_sets join.EntryGuarded a b at h g = (h, g)
+  joined_sets join.FinishGuarded a b at h g = (h, g)
+
+  repeated_sets : (r : Repetition) (a : Plain) (at : Place) → AreSets P a → AreSets P (repeated r a at)
+  repeated_sets repetition.Star a at h = h
+  repeated_sets repetition.LongestStar a at h = h
+  repeated_sets repetition.Optional a at h = h
+  repeated_sets repetition.Plus a at h = h
+  repeated_sets (repetition.Count bounds) a at h = h
+
+  all_repeated_sets : (rs : List Repetition) (a : Plain) (at : Place) → AreSets P a → AreSets P (all_repeated rs a at)
+  all_repeated_sets [] a at h = h
+  all_repeated_sets (r ∷ rs) a at h = all_repeated_sets rs (repeated r a at) at (repeated_sets r a at h)
+
+  whole_sets : (m : Negation) (at : Place) → AreSets P (whole alphabet m at)
+  whole_sets negation.Language at = h_any
+  whole_sets negation.Character at = h_any
+
+  all_negated_sets : (ms : List Negation) (a : Plain) (at : Place) → AreSets P a → AreSets P (all_negated alphabet ms a at)
+  all_negated_sets [] a at h = h
+  all_negated_sets (m ∷ ms) a at h = (whole_sets m at, all_negated_sets ms a at h)
+
+  item_case : (b : Bool) (r : Option (List Range)) (at : Place) → All P (option_to_list r) → AreSets P (cond b (starred (character r at) at) (character r at))
+  item_case true None at h = tt
+  item_case true (Some r) at h = All-head P r [] h
+  item_case false None at h = tt
+  item_case false (Some r) at h = All-head P r [] h
+
+  behind_sets : (a : Plain) (is : List Item) (at : Place) → AreSets P a → All P (flat_map (λ (i : Item). option_to_list i.ranges) is) → AreSets P (behind a is at)
+  behind_sets a [] at h g = h
+  behind_sets a (i ∷ is) at h g =
+      let xs = option_to_list i.ranges in
+      let ys = flat_map (λ (k : Item). option_to_list k.ranges) is in
+      behind_sets (p.Pair p.Then a (item i at) at) is at (h, item_case i.starred i.ranges at (all_left P xs ys g)) (all_right P xs ys g)
+
+  row_sets : (is : List Item) (at : Place) → All P (flat_map (λ (i : Item). option_to_list i.ranges) is) → AreSets P (row is at)
+  row_sets [] at g = tt
+  row_sets (i ∷ is) at g =
+      let xs = option_to_list i.ranges in
+      let ys = flat_map (λ (k : Item). option_to_list k.ranges) is in
+      behind_sets (item i at) is at (item_case i.starred i.ranges at (all_left P xs ys g)) (all_right P xs ys g)
+
+  leaf_sets_hold : (l : Leaf) (at : Place) → All P (leaf_sets l) → AreSets P (leaf_plain l at)
+  leaf_sets_hold (leaf.Set ranges) at h = All-head P ranges [] h
+  leaf_sets_hold leaf.Null at h = tt
+  leaf_sets_hold leaf.Nothing at h = tt
+  leaf_sets_hold (leaf.Row items) at h = row_sets items at h
+
+  named_sets : (known : List Plain) (k : ℕ) → All (AreSets P) known → AreSets P (named (slice_get known k))
+  named_sets [] k h = tt
+  named_sets (q ∷ known) zero h = All-head (AreSets P) q known h
+  named_sets (q ∷ known) (suc k) h = named_sets known k (All-tail (AreSets P) q known h)
+
+  module _ (known : List Plain) (h_known : All (AreSets P) known) where
+    abbrev HasSets : Expression → Type 0
+    HasSets e = All P (sets e) → AreSets P (plain alphabet known e)
+
+    abbrev HasLinkSets : Link → Type 0
+    HasLinkSets l = All P (link_parts l) → AreSets P (operand alphabet known l).plain
+
+    abbrev Told : Type 0
+    Told = (e : Expression) × HasSets e
+
+    abbrev ToldLink : Type 0
+    ToldLink = (l : Link) × HasLinkSets l
+
+    chain_sets : (a : Plain) (os : List ToldLink) (at : Place) → AreSets P a → All P (flat_map (λ (y : Sets). y) (map link_parts (map (λ l. l.0) os)))
+        → AreSets P (chained alphabet a (map (operand alphabet known) (map (λ l. l.0) os)) at)
+    chain_sets a [] at h g = h
+    chain_sets a (o ∷ os) at h g =
+        let xs = link_parts o.0 in
+        let ys = flat_map (λ (y : Sets). y) (map link_parts (map (λ l. l.0) os)) in
+        chain_sets (joined alphabet (operand alphabet known o.0).join a (operand alphabet known o.0).plain at) os at
+        (joined_sets (operand alphabet known o.0).join a (operand alphabet known o.0).plain at h (o.1 (all_left P xs ys g))) (all_right P xs ys g)
+
+    level_sets : (y : Expression-F Told ToldLink) → All P (drafts.level_sets (map-Expression Expression Link Sets Sets sets link_parts (map-Expression Told ToldLink Expression Link (λ e. e.0) (λ l. l.0) y)))
+        → AreSets P (expression_step alphabet known (map-Expression Expression Link Plain Operand (plain alphabet known) (operand alphabet known) (map-Expression Told ToldLink Expression Link (λ e. e.0) (λ l. l.0) y)))
+    level_sets (level.Leaf l at) h = leaf_sets_hold l at h
+    level_sets (level.Name k) h = named_sets known k h_known
+    level_sets (level.Chain a os at) h =
+        let xs = sets a.0 in
+        let ys = flat_map (λ (y : Sets). y) (map link_parts (map (λ l. l.0) os)) in
+        chain_sets (plain alphabet known a.0) os at (a.1 (all_left P xs ys h)) (all_right P xs ys h)
+    level_sets (level.Repeated a rs at) h = all_repeated_sets rs (plain alphabet known a.0) at (a.1 h)
+    level_sets (level.Negated ms a at) h = all_negated_sets ms (plain alphabet known a.0) at (a.1 h)
+    level_sets (level.Embedded a ps at) h = a.1 h
+
+    plain_sets : (e : Expression) → HasSets e
+    plain_sets = ind-Expression HasSets HasLinkSets
+        (λ x y is h. subst (AreSets P) (sym (fold-roll-Expression Plain Operand (expression_step alphabet known) link_step x))
+        (subst (λ z. All P (drafts.level_sets (map-Expression Expression Link Sets Sets sets link_parts z))
+        → AreSets P (expression_step alphabet known (map-Expression Expression Link Plain Operand (plain alphabet known) (operand alphabet known) z))) is (level_sets y)
+        (subst (All P) (fold-roll-Expression Sets Sets drafts.level_sets drafts.link_sets x) h)))
+        (λ x y is h. subst (λ z. AreSets P z.plain) (sym (fold-roll-Link Plain Operand (expression_step alphabet known) link_step x))
+        (subst (λ z. All P (sets z.operand) → AreSets P (plain alphabet known z.operand)) is y.operand.1
+        (subst (All P) (fold-roll-Link Sets Sets drafts.level_sets drafts.link_sets x) h)))
+
+-- ---- all definitions
+
+-- the sets of its expression
+abbrev AreValueSets : (List Range → Type 0) → Value → Type 0
+AreValueSets P v = All (λ e. All P (sets e)) (expressions v)
+
+value_sets : (alphabet : Alphabet) (P : List Range → Type 0) → P (any alphabet) → (known : List Plain) → All (AreSets P) known → (v : Value) → AreValueSets P v → AreSets P (value_plain alphabet known v)
+value_sets alphabet P h known k (value.Expression e) g = plain_sets alphabet P h known k e (All-head (λ z. All P (sets z)) e [] g)
+value_sets alphabet P h known k (value.Scanner ps) g = tt
+
+plains_sets : (alphabet : Alphabet) (P : List Range → Type 0) → P (any alphabet) → (known : List Plain) → All (AreSets P) known → (ds : List Definition)
+    → All (λ e. All P (sets e)) (flat_map (λ (d : Definition). expressions d.value) ds) → All (AreSets P) (plains_behind alphabet known ds)
+plains_sets alphabet P h known k [] g = k
+plains_sets alphabet P h known k (d ∷ ds) g =
+    let Q : Expression → Type 0 = λ e. All P (sets e) in
+    let ys = flat_map (λ (x : Definition). expressions x.value) ds in
+    let v = value_plain alphabet known d.value in
+    plains_sets alphabet P h (known ++ v ∷ [])
+    (All-append (AreSets P) known (v ∷ []) k (All-cons (AreSets P) v [] (value_sets alphabet P h known k d.value (all_left Q (expressions d.value) ys g)) (All-nil (AreSets P)))) ds (all_right Q (expressions d.value) ys g)
+
+meanings_sets : (P : List Range → Type 0) (ds : List Definition) (ps : List Plain) → All (AreSets P) ps → All (λ (m : Meaning). AreSets P m.plain) (meanings_of ds ps)
+meanings_sets P [] ps h = All-nil (λ (m : Meaning). AreSets P m.plain)
+meanings_sets P (d ∷ ds) [] h = All-nil (λ (m : Meaning). AreSets P m.plain)
+meanings_sets P (d ∷ ds) (q ∷ ps) h = All-cons (λ (m : Meaning). AreSets P m.plain) (meaning d q) (meanings_of ds ps) (All-head (AreSets P) q ps h) (meanings_sets P ds ps (All-tail (AreSets P) q ps h))
+
+-- the sets of an entry's expression
+abbrev HasMadeSets : (List Range → Type 0) → Made → Type 0
+HasMadeSets P x = All P (flat_map sets_in (trees_of x.root))
+
+made_sets : (P : List Range → Type 0) (b : Bool) (cs : List ActionId) (m : Meaning) → AreSets P m.plain → All (HasMadeSets P) (cond b (entry cs m ∷ []) [])
+made_sets P true cs m h = All-cons (HasMadeSets P) (entry cs m) []
+    (All-append P (sets_in (walk m.plain (begun cs)).0.node) [] (walk_sets P m.plain (begun cs) h) (All-nil P)) (All-nil (HasMadeSets P))
+made_sets P false cs m h = All-nil (HasMadeSets P)
+
+entries_sets : (P : List Range → Type 0) (cs : List ActionId) (ms : List Meaning) → All (λ (m : Meaning). AreSets P m.plain) ms → All (HasMadeSets P) (entries cs ms)
+entries_sets P cs [] h = All-nil (HasMadeSets P)
+entries_sets P cs (m ∷ ms) h =
+    let Q = λ (x : Meaning). AreSets P x.plain in
+    All-append (HasMadeSets P) (made_by cs m) (entries (conditions_by cs m) ms) (made_sets P (is_entry m.sign) cs m (All-head Q m ms h))
+    (entries_sets P (conditions_by cs m) ms (All-tail Q m ms h))
+
+any_is_set : (alphabet : Alphabet) → IsSet alphabet (any alphabet)
+any_is_set alphabets.Char = (tt, All-cons (IsInAlphabet alphabets.Char) _ [] refl (All-nil (IsInAlphabet alphabets.Char)))
+any_is_set alphabets.UnsignedChar = (tt, All-cons (IsInAlphabet alphabets.UnsignedChar) _ [] refl (All-nil (IsInAlphabet alphabets.UnsignedChar)))
+
+-- the sets of all entries are in order and in the alphabet
+pub entries_in_form : (draft : Draft) (es : List rust.Entry) → HasSetsInForm draft → map made_of es ≡ entries [] (meanings draft)
+    → All (λ (e : rust.Entry). All (IsSet draft.alphabet) (flat_map sets_in (trees_of (root_of e.root)))) es
+entries_in_form draft es h e =
+    let P = IsSet draft.alphabet in
+    let ps = plains_sets draft.alphabet P (any_is_set draft.alphabet) [] (All-nil (AreSets P)) draft.definitions h in
+    all_map (HasMadeSets P) made_of es (subst (All (HasMadeSets P)) (sym e) (entries_sets P [] (meanings draft) (meanings_sets P draft.definitions (plains draft.alphabet draft.definitions) ps)))
+
+pub sets_at_end : (draft : Draft) (ds : List Definition) (es : List rust.Entry) → HasSetsInForm draft → ds ≡ draft.definitions → map made_of es ≡ entries [] (meanings_of ds (plains draft.alphabet ds))
+    → All (λ (e : rust.Entry). All (IsSet draft.alphabet) (flat_map sets_in (trees_of (root_of e.root)))) es
+sets_at_end draft ds es h s e = entries_in_form draft es h (e ∙ ap (λ z. entries [] (meanings_of z (plains draft.alphabet z))) s)

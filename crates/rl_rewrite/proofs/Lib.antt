@@ -1,0 +1,16 @@
+pub mod RowLaws
+pub mod ChainLaws
+pub mod RepeatLaws
+pub mod NameLaws
+pub mod Weights
+pub mod CopyLaws
+pub mod SizeLaws
+pub mod PlaceLaws
+pub mod StampLaws
+pub mod CutLaws
+pub mod EntryLaws
+pub mod Rows
+pub mod SetLaws
+pub mod DraftLaws
+pub mod ConditionLaws
+pub mod DifferLaws

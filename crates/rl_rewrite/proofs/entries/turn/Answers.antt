@@ -1,0 +1,12 @@
+use Rattle.rl_rewrite.proofs.CutLaws.{size_or}
+use Rattle.rl_rewrite.proofs.EntryLaws.{turn_next}
+use Rattle.rl_rewrite.proofs.entries.turn.Goals as goal
+
+pub step-requires-clause-size : goal.step-requires-clause-size
+step-requires-clause-size c =
+    size_or c.args.alphabet c.args.definitions.now c.before-earlier.result.now c.args.sizes.now c.args.i c.index-definitions-i.result _ c.requires.sizes c.requires.within c.index-definitions-i.is c.before-earlier.ensures
+
+pub returns-clause-made : goal.returns-clause-made
+returns-clause-made c =
+    turn_next c.args.alphabet c.args.definitions.now c.before-earlier.result.now c.args.i c.index-definitions-i.result c.args.made c.in_ok-r.r c.requires.within c.index-definitions-i.is c.before-earlier.ensures
+    c.requires.made c.in_ok-r.ensures.made
