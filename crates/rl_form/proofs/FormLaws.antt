@@ -1,0 +1,290 @@
+-- A Spec has its form exactly where its parts are as is asked.
+use Rattle.std.proofs.Common.{◌≡◌, ℕ, zero, suc, ◌≤◌, List, [], ◌∷◌, ◌++◌, length, map, Bool, Some, Result, Ok, Err, refl, sym, ap, ◌∙◌, subst, arith}
+use Rattle.std.specs.Prelude.{◌↔◌, IsTrue, IsSome, IfSome, IfOk, slice_get, All}
+use Rattle.std.specs.List.{flat_map}
+use Rattle.rl_types.specs.declared.numbers.ActionId.{ActionId}
+use Rattle.rl_types.specs.declared.numbers.Place.{Place}
+use Rattle.rl_types.specs.declared.numbers.Memory.{Memory}
+use Rattle.rl_run.specs.declared.statements.Statement.{Statement}
+use Rattle.rl_automata.specs.Nodes.{Node}
+use Rattle.rl_automata.specs.Refused.{sets_in, conditions_in}
+use Rattle.rl_arrays.specs.Names.{is_name, is_action_name}
+use Rattle.rl_arrays.specs.Statements.{names_entry}
+use Rattle.rl_model.specs.declared.spec.Root as rust_root
+use Rattle.rl_model.specs.declared.spec.Root.TheVariants as R
+use Rattle.rl_model.specs.declared.spec.Entry as rust_entry
+use Rattle.rl_model.specs.declared.spec.ActionDef.{ActionDef}
+use Rattle.rl_model.specs.declared.spec.Write.{Write}
+use Rattle.rl_model.specs.declared.spec.Spec.{Spec}
+use Rattle.rl_model.specs.Specification as model
+use Rattle.rl_model.specs.Specification.{Root, Plain, Scanner, Action, specification_of, root_of, roots_of, entry_of, action_of, numbered}
+use Rattle.rl_model.specs.Counts.{root_size, root_depth, trees_of, token_actions, actions_in, stamps_in}
+use Rattle.rl_model.specs.WellFormed.{IsWellFormed, IsNumber, HasNoStatement, HasPlaces, HasPatterns, all_trees, all_statements, all_places, pattern_places, quiet_actions, outer_statements}
+use Rattle.rl_form.specs.declared.scope.Scope.{Scope}
+use Rattle.rl_form.specs.Form.{IsPlain, HasForm}
+use Rattle.rl_form.specs.Parts.{IsRoot, IsEntry, IsAction, IsWrite, IsCondition, HasFile, HasParts, scope_of}
+use Rattle.rl_form.proofs.Lists.{Each, each_append, each_front, each_behind, each_more, each_map, each_mapped, each_flat, each_of_flat, each_flat_flat, each_of_flat_flat, each_at, each_from, each_empty, all, each}
+use Rattle.rl_form.proofs.TreeLaws.{IsKeySet, IsFewRanges, says, sound}
+
+-- ---- entries
+
+-- what is asked of an entry's expression, by the words of the Spec
+pub record SaysRoot (scope : Scope) (x : Root) : Type 0 where
+  pub plain : IsPlain x
+  pub nodes : root_size x ≤ 100000
+  pub not_deep : root_depth x ≤ 2000
+  pub patterns : HasPatterns x
+  pub actions : Each (λ t. Each (IsNumber scope.actions) (actions_in t)) (trees_of x)
+  pub tokens : Each (IsNumber scope.actions) (token_actions x)
+  pub conditions : Each (λ t. Each (IsNumber scope.conditions) (conditions_in t)) (trees_of x)
+  pub stamps : Each (λ t. Each (IsNumber 100000) (stamps_in t)) (trees_of x)
+  pub keys : Each (λ t. Each (IsKeySet scope) (sets_in t)) (trees_of x)
+  pub ranges : Each (λ t. Each IsFewRanges (sets_in t)) (trees_of x)
+
+says_root : (scope : Scope) (n : ℕ) (x : Root) → n ≤ 100000 → IsRoot scope n x → SaysRoot scope x
+says_root scope n (Plain t) few h =
+    let p = says scope t h.sound in
+    let size = h.nodes in
+    record {
+      plain = tt;
+      nodes = omega (arith, size, few);
+      not_deep = h.not_deep;
+      patterns = tt;
+      actions = (p.actions, tt);
+      tokens = tt;
+      conditions = (p.conditions, tt);
+      stamps = (p.stamps, tt);
+      keys = (p.keys, tt);
+      ranges = (p.ranges, tt);
+    }
+says_root scope n (Scanner ps) few h = absurd h
+
+root_says : (scope : Scope) (n : ℕ) (x : Root) → n ≡ root_size x → SaysRoot scope x → IsRoot scope n x
+root_says scope n (Plain t) size h = record {
+  not_deep = h.not_deep;
+  nodes = sym size;
+  sound = sound scope t (record { actions = h.actions.0; conditions = h.conditions.0; stamps = h.stamps.0; keys = h.keys.0; ranges = h.ranges.0 });
+}
+root_says scope n (Scanner ps) size h = absurd h.plain
+
+-- an entry's expression has as many nodes as it has places
+size_of_root : (scope : Scope) (n : ℕ) (x : Root) → IsRoot scope n x → n ≡ root_size x
+size_of_root scope n (Plain t) h = sym h.nodes
+size_of_root scope n (Scanner ps) h = absurd h
+
+entry_places : (scope : Scope) (n : ℕ) (places : List Place) (root : rust_root.Root) → IsRoot scope n (root_of root) → Each (HasFile scope.files) places → Each (HasFile scope.files) (places ++ pattern_places root)
+entry_places scope n places (R.Plain t) h p = each_append (HasFile scope.files) places [] p tt
+entry_places scope n places (R.Scanner ps) h p = absurd h
+
+-- ---- statements
+
+quiet_actions_of : (actions : List ActionDef) → Each (λ (a : ActionDef). a.statements ≡ []) actions → flat_map (λ (a : Action). a.statements) (map action_of actions) ≡ []
+quiet_actions_of [] h = refl
+quiet_actions_of (a ∷ actions) h = ap (λ z. z ++ flat_map (λ (a : Action). a.statements) (map action_of actions)) h.0 ∙ quiet_actions_of actions h.1
+
+quiet_at : (actions : List ActionDef) (i : ℕ) → Each (λ (a : ActionDef). a.statements ≡ []) actions → IfSome (slice_get (map action_of actions) i) (λ x. x.statements ≡ [])
+quiet_at [] i h = tt
+quiet_at (a ∷ actions) zero h = h.0
+quiet_at (a ∷ actions) (suc i) h = quiet_at actions i h.1
+
+quiet_number : (actions : List ActionDef) (n : ℕ) → Each (λ (a : ActionDef). a.statements ≡ []) actions → HasNoStatement (map action_of actions) n
+quiet_number actions zero h = tt
+quiet_number actions (suc i) h = quiet_at actions i h
+
+few_statements : (a : ActionDef) → a.statements ≡ [] → outer_statements a.statements ≤ 4
+few_statements a e = subst (λ z. outer_statements z ≤ 4) (sym e) (omega arith)
+
+-- ---- from the parts to the Spec
+
+module _ (spec : Spec) where
+  abbrev scope : Scope
+  scope = scope_of spec
+
+  -- what holds of each entry's expression, of the expressions of the specification
+  of_roots : (P : Root → Type 0) → Each (λ (e : rust_entry.Entry). P (root_of e.root)) spec.entries → Each P (roots_of (specification_of spec))
+  of_roots P h = each_map P (λ e. e.root) (map entry_of spec.entries) (each_map (λ (e : model.Entry). P e.root) entry_of spec.entries h)
+
+  to_roots : (P : Root → Type 0) → Each P (roots_of (specification_of spec)) → Each (λ (e : rust_entry.Entry). P (root_of e.root)) spec.entries
+  to_roots P h = each_mapped (λ (e : model.Entry). P e.root) entry_of spec.entries (each_mapped P (λ e. e.root) (map entry_of spec.entries) h)
+
+  -- what stands in the expressions
+  of_trees : {X : Type 0} (P : X → Type 0) (f : Node → List X) → Each (λ x. Each (λ t. Each P (f t)) (trees_of x)) (roots_of (specification_of spec)) → Each P (flat_map f (all_trees (specification_of spec)))
+  of_trees P f h = each_flat_flat P f trees_of (roots_of (specification_of spec)) h
+
+  to_trees : {X : Type 0} (P : X → Type 0) (f : Node → List X) → All P (flat_map f (all_trees (specification_of spec))) → Each (λ (e : rust_entry.Entry). Each (λ t. Each P (f t)) (trees_of (root_of e.root))) spec.entries
+  to_trees P f h = to_roots (λ x. Each (λ t. Each P (f t)) (trees_of x)) (each_of_flat_flat P f trees_of (roots_of (specification_of spec)) (each P (flat_map f (all_trees (specification_of spec))) h))
+
+  module _ (parts : HasParts spec) where
+    entries : Each (IsEntry scope) spec.entries
+    entries = each (IsEntry scope) spec.entries parts.sound.entries
+
+    actions : Each (IsAction (length spec.files)) spec.actions
+    actions = each (IsAction (length spec.files)) spec.actions parts.sound.actions
+
+    of_entries : (P : rust_entry.Entry → Type 0) → ((e : rust_entry.Entry) → IsEntry scope e → P e) → Each P spec.entries
+    of_entries P f = each_more (IsEntry scope) P spec.entries f entries
+
+    of_actions : (P : ActionDef → Type 0) → ((a : ActionDef) → IsAction (length spec.files) a → P a) → Each P spec.actions
+    of_actions P f = each_more (IsAction (length spec.files)) P spec.actions f actions
+
+    roots : Each (SaysRoot scope) (roots_of (specification_of spec))
+    roots = of_roots (SaysRoot scope) (of_entries (λ e. SaysRoot scope (root_of e.root)) (λ e h. says_root scope (length e.places) (root_of e.root) h.few h.root))
+
+    from_roots : (P : Root → Type 0) → ((x : Root) → SaysRoot scope x → P x) → Each P (roots_of (specification_of spec))
+    from_roots P f = each_more (SaysRoot scope) P (roots_of (specification_of spec)) f roots
+
+    quiet_ones : Each (λ (a : ActionDef). a.statements ≡ []) spec.actions
+    quiet_ones = of_actions (λ a. a.statements ≡ []) (λ a h. h.quiet)
+
+    no_statements : all_statements (specification_of spec) ≡ []
+    no_statements = quiet_actions_of spec.actions quiet_ones
+
+    -- what is asked of statements, of which there are none
+    of_statements : (P : Statement → Type 0) → All P (all_statements (specification_of spec))
+    of_statements P = subst (All P) (sym no_statements) (all P [] tt)
+
+    of_numbers : (xs : List ℕ) → Each (HasNoStatement (map action_of spec.actions)) xs
+    of_numbers [] = tt
+    of_numbers (x ∷ xs) = (quiet_number spec.actions x quiet_ones, of_numbers xs)
+
+    trees : {X : Type 0} (P : X → Type 0) (f : Node → List X) → ((x : Root) → SaysRoot scope x → Each (λ t. Each P (f t)) (trees_of x)) → All P (flat_map f (all_trees (specification_of spec)))
+    trees P f h = all P (flat_map f (all_trees (specification_of spec))) (of_trees P f (from_roots (λ x. Each (λ t. Each P (f t)) (trees_of x)) h))
+
+    numbers_of_actions : Each (IsNumber (length spec.actions)) (flat_map actions_in (all_trees (specification_of spec)) ++ flat_map token_actions (roots_of (specification_of spec)))
+    numbers_of_actions = each_append (IsNumber (length spec.actions)) (flat_map actions_in (all_trees (specification_of spec))) (flat_map token_actions (roots_of (specification_of spec))) (of_trees (IsNumber (length spec.actions)) actions_in (from_roots (λ x. Each (λ t. Each (IsNumber (length spec.actions)) (actions_in t)) (trees_of x)) (λ x h. h.actions))) (each_flat (IsNumber (length spec.actions)) token_actions (roots_of (specification_of spec)) (from_roots (λ x. Each (IsNumber (length spec.actions)) (token_actions x)) (λ x h. h.tokens)))
+
+    entries_files : Each (HasFile (length spec.files)) (flat_map (λ (e : rust_entry.Entry). e.places ++ pattern_places e.root) spec.entries)
+    entries_files = each_flat (HasFile (length spec.files)) (λ (e : rust_entry.Entry). e.places ++ pattern_places e.root) spec.entries (of_entries (λ e. Each (HasFile (length spec.files)) (e.places ++ pattern_places e.root)) (λ e h. entry_places scope (length e.places) e.places e.root h.root (each (HasFile (length spec.files)) e.places h.places)))
+
+    actions_files : Each (HasFile (length spec.files)) (map (λ (a : ActionDef). a.place) spec.actions)
+    actions_files = each_map (HasFile (length spec.files)) (λ (a : ActionDef). a.place) spec.actions (of_actions (λ a. HasFile (length spec.files) a.place) (λ a h. h.place))
+
+    writes_files : Each (HasFile (length spec.files)) (map (λ (w : Write). w.place) spec.writes)
+    writes_files = each_map (HasFile (length spec.files)) (λ (w : Write). w.place) spec.writes (each (IsWrite (length spec.files)) spec.writes parts.sound.writes)
+
+    files : Each (HasFile (length spec.files)) (all_places spec)
+    files = each_append (HasFile (length spec.files)) (flat_map (λ (e : rust_entry.Entry). e.places ++ pattern_places e.root) spec.entries ++ map (λ (a : ActionDef). a.place) spec.actions) (map (λ (w : Write). w.place) spec.writes) (each_append (HasFile (length spec.files)) (flat_map (λ (e : rust_entry.Entry). e.places ++ pattern_places e.root) spec.entries) (map (λ (a : ActionDef). a.place) spec.actions) entries_files actions_files) writes_files
+
+    well_formed : IsWellFormed spec
+    well_formed = record {
+      some_entry = parts.few.some_entry;
+      few_entries = parts.few.entries;
+      few_actions = parts.few.actions;
+      few_conditions = parts.few.conditions;
+      entries_differ = parts.apart.entries;
+      actions_differ = parts.apart.actions;
+      conditions_differ = parts.apart.conditions;
+      machine_name = parts.sound.machine;
+      entry_names = all (λ e. IsTrue (is_name e.name)) spec.entries (of_entries (λ e. IsTrue (is_name e.name)) (λ e h. h.name));
+      action_names = all (λ a. IsTrue (is_action_name a.name)) spec.actions (of_actions (λ a. IsTrue (is_action_name a.name)) (λ a h. h.name));
+      actions_exist = all (IsNumber (length spec.actions)) (flat_map actions_in (all_trees (specification_of spec)) ++ flat_map token_actions (roots_of (specification_of spec))) numbers_of_actions;
+      condition_actions_exist = all (IsNumber (length spec.actions)) (map (λ (a : ActionId). a.0) spec.conds) (each_map (IsNumber (length spec.actions)) (λ (a : ActionId). a.0) spec.conds (each (IsCondition (length spec.actions)) spec.conds parts.sound.conditions));
+      conditions_exist = trees (IsNumber (length spec.conds)) conditions_in (λ x h. h.conditions);
+      entries_exist = of_statements (λ s. IfSome s.entry (λ e. IsNumber (length spec.entries) e.0));
+      files_exist = all (HasFile (length spec.files)) (all_places spec) files;
+      keys_in_alphabet = trees (IsKeySet scope) sets_in (λ x h. h.keys);
+      few_ranges = trees IsFewRanges sets_in (λ x h. h.ranges);
+      few_nodes = all (λ x. root_size x ≤ 100000) (roots_of (specification_of spec)) (from_roots (λ x. root_size x ≤ 100000) (λ x h. h.nodes));
+      not_deep = all (λ x. root_depth x ≤ 2000) (roots_of (specification_of spec)) (from_roots (λ x. root_depth x ≤ 2000) (λ x h. h.not_deep));
+      stamps = trees (IsNumber 100000) stamps_in (λ x h. h.stamps);
+      places = all HasPlaces spec.entries (of_entries HasPlaces (λ e h. size_of_root scope (length e.places) (root_of e.root) h.root));
+      patterns = all HasPatterns (roots_of (specification_of spec)) (from_roots HasPatterns (λ x h. h.patterns));
+      statement_entries = of_statements (λ s. IsSome s.entry ↔ IsTrue (names_entry s.kind));
+      few_outer = all (λ (a : ActionDef). outer_statements a.statements ≤ 4) spec.actions (of_actions (λ a. outer_statements a.statements ≤ 4) (λ a h. few_statements a h.quiet));
+      quiet = all (HasNoStatement (map action_of spec.actions)) (quiet_actions (specification_of spec)) (of_numbers (quiet_actions (specification_of spec)));
+    }
+
+    pub form_of_parts : HasForm spec
+    form_of_parts = record {
+      well_formed = well_formed;
+      plain = all (λ (e : rust_entry.Entry). IsPlain (root_of e.root)) spec.entries (to_roots IsPlain (from_roots IsPlain (λ x h. h.plain)));
+      quiet = no_statements;
+    }
+
+  -- ---- and back
+
+  module _ (form : HasForm spec) where
+    wf : IsWellFormed spec
+    wf = form.well_formed
+
+    plain_ones : Each (λ (e : rust_entry.Entry). IsPlain (root_of e.root)) spec.entries
+    plain_ones = each (λ (e : rust_entry.Entry). IsPlain (root_of e.root)) spec.entries form.plain
+
+    back_actions : All (IsNumber (length spec.actions)) (flat_map actions_in (all_trees (specification_of spec)))
+    back_actions = all (IsNumber (length spec.actions)) (flat_map actions_in (all_trees (specification_of spec))) (each_front (IsNumber (length spec.actions)) (flat_map actions_in (all_trees (specification_of spec))) (flat_map token_actions (roots_of (specification_of spec))) (each (IsNumber (length spec.actions)) (flat_map actions_in (all_trees (specification_of spec)) ++ flat_map token_actions (roots_of (specification_of spec))) wf.actions_exist))
+
+    back_tokens : Each (λ (e : rust_entry.Entry). Each (IsNumber (length spec.actions)) (token_actions (root_of e.root))) spec.entries
+    back_tokens = to_roots (λ x. Each (IsNumber (length spec.actions)) (token_actions x)) (each_of_flat (IsNumber (length spec.actions)) token_actions (roots_of (specification_of spec)) (each_behind (IsNumber (length spec.actions)) (flat_map actions_in (all_trees (specification_of spec))) (flat_map token_actions (roots_of (specification_of spec))) (each (IsNumber (length spec.actions)) (flat_map actions_in (all_trees (specification_of spec)) ++ flat_map token_actions (roots_of (specification_of spec))) wf.actions_exist)))
+
+    back_roots : (P : Root → Type 0) → All P (roots_of (specification_of spec)) → Each (λ (e : rust_entry.Entry). P (root_of e.root)) spec.entries
+    back_roots P h = to_roots P (each P (roots_of (specification_of spec)) h)
+
+    root_at : (i : ℕ) (e : rust_entry.Entry) → slice_get spec.entries i ≡ Some e → SaysRoot scope (root_of e.root)
+    root_at i e at = record {
+      plain = each_at (λ (e : rust_entry.Entry). IsPlain (root_of e.root)) spec.entries i e at plain_ones;
+      nodes = each_at (λ (e : rust_entry.Entry). root_size (root_of e.root) ≤ 100000) spec.entries i e at (back_roots (λ x. root_size x ≤ 100000) wf.few_nodes);
+      not_deep = each_at (λ (e : rust_entry.Entry). root_depth (root_of e.root) ≤ 2000) spec.entries i e at (back_roots (λ x. root_depth x ≤ 2000) wf.not_deep);
+      patterns = each_at (λ (e : rust_entry.Entry). HasPatterns (root_of e.root)) spec.entries i e at (back_roots HasPatterns wf.patterns);
+      actions = each_at (λ (e : rust_entry.Entry). Each (λ t. Each (IsNumber (length spec.actions)) (actions_in t)) (trees_of (root_of e.root))) spec.entries i e at (to_trees (IsNumber (length spec.actions)) actions_in back_actions);
+      tokens = each_at (λ (e : rust_entry.Entry). Each (IsNumber (length spec.actions)) (token_actions (root_of e.root))) spec.entries i e at back_tokens;
+      conditions = each_at (λ (e : rust_entry.Entry). Each (λ t. Each (IsNumber (length spec.conds)) (conditions_in t)) (trees_of (root_of e.root))) spec.entries i e at (to_trees (IsNumber (length spec.conds)) conditions_in wf.conditions_exist);
+      stamps = each_at (λ (e : rust_entry.Entry). Each (λ t. Each (IsNumber 100000) (stamps_in t)) (trees_of (root_of e.root))) spec.entries i e at (to_trees (IsNumber 100000) stamps_in wf.stamps);
+      keys = each_at (λ (e : rust_entry.Entry). Each (λ t. Each (IsKeySet scope) (sets_in t)) (trees_of (root_of e.root))) spec.entries i e at (to_trees (IsKeySet scope) sets_in wf.keys_in_alphabet);
+      ranges = each_at (λ (e : rust_entry.Entry). Each (λ t. Each IsFewRanges (sets_in t)) (trees_of (root_of e.root))) spec.entries i e at (to_trees IsFewRanges sets_in wf.few_ranges);
+    }
+
+    all_files : Each (HasFile (length spec.files)) (all_places spec)
+    all_files = each (HasFile (length spec.files)) (all_places spec) wf.files_exist
+
+    former_files : Each (HasFile (length spec.files)) (flat_map (λ (e : rust_entry.Entry). e.places ++ pattern_places e.root) spec.entries ++ map (λ (a : ActionDef). a.place) spec.actions)
+    former_files = each_front (HasFile (length spec.files)) (flat_map (λ (e : rust_entry.Entry). e.places ++ pattern_places e.root) spec.entries ++ map (λ (a : ActionDef). a.place) spec.actions) (map (λ (w : Write). w.place) spec.writes) all_files
+
+    back_entries_files : Each (λ (e : rust_entry.Entry). Each (HasFile (length spec.files)) (e.places ++ pattern_places e.root)) spec.entries
+    back_entries_files = each_of_flat (HasFile (length spec.files)) (λ (e : rust_entry.Entry). e.places ++ pattern_places e.root) spec.entries (each_front (HasFile (length spec.files)) (flat_map (λ (e : rust_entry.Entry). e.places ++ pattern_places e.root) spec.entries) (map (λ (a : ActionDef). a.place) spec.actions) former_files)
+
+    entry_at : (i : ℕ) (e : rust_entry.Entry) → slice_get spec.entries i ≡ Some e → IsEntry scope e
+    entry_at i e at =
+        let size : length e.places ≡ root_size (root_of e.root) = each_at HasPlaces spec.entries i e at (each HasPlaces spec.entries wf.places) in
+        let p = root_at i e at in
+        let few = p.nodes in
+        record {
+          name = each_at (λ (e : rust_entry.Entry). IsTrue (is_name e.name)) spec.entries i e at (each (λ (e : rust_entry.Entry). IsTrue (is_name e.name)) spec.entries wf.entry_names);
+          few = omega (arith, size, few);
+          root = root_says scope (length e.places) (root_of e.root) size p;
+          places = all (HasFile (length spec.files)) e.places (each_front (HasFile (length spec.files)) e.places (pattern_places e.root) (each_at (λ (e : rust_entry.Entry). Each (HasFile (length spec.files)) (e.places ++ pattern_places e.root)) spec.entries i e at back_entries_files));
+        }
+
+    back_quiet : Each (λ (a : ActionDef). a.statements ≡ []) spec.actions
+    back_quiet = each_mapped (λ (a : Action). a.statements ≡ []) action_of spec.actions (each_empty (λ (a : Action). a.statements) (map action_of spec.actions) form.quiet)
+
+    back_actions_files : Each (λ (a : ActionDef). HasFile (length spec.files) a.place) spec.actions
+    back_actions_files = each_mapped (HasFile (length spec.files)) (λ (a : ActionDef). a.place) spec.actions (each_behind (HasFile (length spec.files)) (flat_map (λ (e : rust_entry.Entry). e.places ++ pattern_places e.root) spec.entries) (map (λ (a : ActionDef). a.place) spec.actions) former_files)
+
+    back_writes_files : Each (IsWrite (length spec.files)) spec.writes
+    back_writes_files = each_mapped (HasFile (length spec.files)) (λ (w : Write). w.place) spec.writes (each_behind (HasFile (length spec.files)) (flat_map (λ (e : rust_entry.Entry). e.places ++ pattern_places e.root) spec.entries ++ map (λ (a : ActionDef). a.place) spec.actions) (map (λ (w : Write). w.place) spec.writes) all_files)
+
+    action_at : (i : ℕ) (a : ActionDef) → slice_get spec.actions i ≡ Some a → IsAction (length spec.files) a
+    action_at i a at = record {
+      name = each_at (λ (a : ActionDef). IsTrue (is_action_name a.name)) spec.actions i a at (each (λ (a : ActionDef). IsTrue (is_action_name a.name)) spec.actions wf.action_names);
+      quiet = each_at (λ (a : ActionDef). a.statements ≡ []) spec.actions i a at back_quiet;
+      place = each_at (λ (a : ActionDef). HasFile (length spec.files) a.place) spec.actions i a at back_actions_files;
+    }
+
+    pub parts_of_form : HasParts spec
+    parts_of_form = record {
+      few = record { some_entry = wf.some_entry; entries = wf.few_entries; actions = wf.few_actions; conditions = wf.few_conditions };
+      sound = record {
+        machine = wf.machine_name;
+        entries = all (IsEntry scope) spec.entries (each_from (IsEntry scope) spec.entries entry_at);
+        actions = all (IsAction (length spec.files)) spec.actions (each_from (IsAction (length spec.files)) spec.actions action_at);
+        conditions = all (IsCondition (length spec.actions)) spec.conds (each_mapped (IsNumber (length spec.actions)) (λ (a : ActionId). a.0) spec.conds (each (IsNumber (length spec.actions)) (map (λ (a : ActionId). a.0) spec.conds) wf.condition_actions_exist));
+        writes = all (IsWrite (length spec.files)) spec.writes back_writes_files;
+      };
+      apart = record { entries = wf.entries_differ; actions = wf.actions_differ; conditions = wf.conditions_differ };
+    }
+
+-- ---- an answer
+
+pub form_of_answer : (spec : Spec) (r : Result Bool Memory) → IfOk r (λ b. IsTrue b ↔ HasParts spec) → IfOk r (λ b. IsTrue b ↔ HasForm spec)
+form_of_answer spec (Ok b) h = ((λ t. form_of_parts spec (h.0 t)), (λ f. h.1 (parts_of_form spec f)))
+form_of_answer spec (Err e) h = tt

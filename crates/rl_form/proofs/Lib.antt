@@ -1,0 +1,5 @@
+pub mod Apart
+pub mod FormLaws
+pub mod Levels
+pub mod Lists
+pub mod TreeLaws

@@ -1,0 +1,112 @@
+-- What is asked of each part of a Spec.
+use Rattle.std.specs.Prelude.{◌≡◌, ℕ, ◌<◌, ◌≤◌, IsTrue, List, [], map, length, All}
+use Rattle.rl_types.specs.declared.numbers.ActionId.{ActionId}
+use Rattle.rl_types.specs.declared.numbers.Place.{Place}
+use Rattle.rl_types.specs.KeyRange.{Range}
+use Rattle.rl_automata.specs.declared.tree.Label.{Label}
+use Rattle.rl_automata.specs.declared.tree.Label.TheVariants.{Action, Prior}
+use Rattle.rl_automata.specs.Nodes as N
+use Rattle.rl_automata.specs.Nodes.{Node}
+use Rattle.rl_automata.specs.Refused.{AreDifferent}
+use Rattle.rl_arrays.specs.Names.{is_name, is_action_name}
+use Rattle.rl_model.specs.declared.spec.Entry as rust_entry
+use Rattle.rl_model.specs.declared.spec.ActionDef.{ActionDef}
+use Rattle.rl_model.specs.declared.spec.Write.{Write}
+use Rattle.rl_model.specs.declared.spec.Spec.{Spec}
+use Rattle.rl_model.specs.Specification.{Root, Plain, Scanner, root_of}
+use Rattle.rl_model.specs.Counts.{size_of, depth_of}
+use Rattle.rl_model.specs.WellFormed.{IsNumber, IsInAlphabet}
+use Rattle.rl_form.specs.declared.scope.Scope.{Scope}
+
+-- what a Spec has, for its parts to speak of
+abbrev pub scope_of : Spec → Scope
+scope_of spec = record { alphabet = spec.alphabet; actions = length spec.actions; conditions = length spec.conds; files = length spec.files }
+
+-- ---- an expression
+
+-- its stamp is a stamp, and its action one of the actions
+abbrev pub IsLabel : Scope → Label → Type 0
+IsLabel scope (Action s x) = IsNumber 100000 s × IsNumber scope.actions x.0
+IsLabel scope (Prior s n v) = IsNumber 100000 s
+
+-- few ranges, of keys of the alphabet
+abbrev pub IsSet : Scope → List Range → Type 0
+IsSet scope ranges = (length ranges ≤ 256) × All (IsInAlphabet scope.alphabet) ranges
+
+-- all its sets are sets, its stamps stamps, and its actions and conditions are there
+abbrev pub IsSound : Scope → Node → Type 0
+IsSound scope (N.Set ranges) = IsSet scope ranges
+IsSound scope N.Null = Unit {0}
+IsSound scope N.Nothing = Unit {0}
+IsSound scope (N.Union a b) = IsSound scope a × IsSound scope b
+IsSound scope (N.And a b) = IsSound scope a × IsSound scope b
+IsSound scope (N.Minus a b) = IsSound scope a × IsSound scope b
+IsSound scope (N.Cat a b) = IsSound scope a × IsSound scope b
+IsSound scope (N.Star a n) = IsNumber 100000 n × IsSound scope a
+IsSound scope (N.Enter a l) = IsLabel scope l × IsSound scope a
+IsSound scope (N.Finish a l) = IsLabel scope l × IsSound scope a
+IsSound scope (N.All a l) = IsLabel scope l × IsSound scope a
+IsSound scope (N.Leave a l) = IsLabel scope l × IsSound scope a
+IsSound scope (N.Mark a class kind s x) = (IsNumber 100000 s × IsNumber scope.actions x) × IsSound scope a
+IsSound scope (N.When a c) = IsNumber scope.conditions c × IsSound scope a
+
+-- an expression that is not too deep, with so many nodes, all of them sound
+pub record IsTree (scope : Scope) (n : ℕ) (t : Node) : Type 0 where
+  pub not_deep : depth_of t ≤ 2000
+  pub nodes : size_of t ≡ n
+  pub sound : IsSound scope t
+
+-- ---- an entry, an action, a `write`
+
+-- an expression and no scanner
+abbrev pub IsRoot : Scope → ℕ → Root → Type 0
+IsRoot scope n (Plain t) = IsTree scope n t
+IsRoot scope n (Scanner ps) = ⊥
+
+abbrev pub HasFile : ℕ → Place → Type 0
+HasFile files place = place.file < files
+
+pub record IsEntry (scope : Scope) (e : rust_entry.Entry) : Type 0 where
+  pub name : IsTrue (is_name e.name)
+  pub few : length e.places ≤ 100000
+  pub root : IsRoot scope (length e.places) (root_of e.root)
+  pub places : All (HasFile scope.files) e.places
+
+pub record IsAction (files : ℕ) (a : ActionDef) : Type 0 where
+  pub name : IsTrue (is_action_name a.name)
+  pub quiet : a.statements ≡ []
+  pub place : HasFile files a.place
+
+abbrev pub IsWrite : ℕ → Write → Type 0
+IsWrite files w = HasFile files w.place
+
+abbrev pub IsCondition : ℕ → ActionId → Type 0
+IsCondition actions c = IsNumber actions c.0
+
+-- ---- a Spec
+
+-- there are entries, and not too many of anything
+pub record AreFew (spec : Spec) : Type 0 where
+  pub some_entry : 1 ≤ length spec.entries
+  pub entries : length spec.entries ≤ 65536
+  pub actions : length spec.actions ≤ 65535
+  pub conditions : length spec.conds ≤ 8
+
+-- no two of a kind have one name, and no two conditions one action
+pub record AreApart (spec : Spec) : Type 0 where
+  pub entries : AreDifferent (map (λ (e : rust_entry.Entry). e.name) spec.entries)
+  pub actions : AreDifferent (map (λ (a : ActionDef). a.name) spec.actions)
+  pub conditions : AreDifferent (map (λ (a : ActionId). a.0) spec.conds)
+
+-- each part is as is asked
+pub record AreSound (spec : Spec) : Type 0 where
+  pub machine : IsTrue (is_name spec.machine)
+  pub entries : All (IsEntry (scope_of spec)) spec.entries
+  pub actions : All (IsAction (length spec.files)) spec.actions
+  pub conditions : All (IsCondition (length spec.actions)) spec.conds
+  pub writes : All (IsWrite (length spec.files)) spec.writes
+
+pub record HasParts (spec : Spec) : Type 0 where
+  pub few : AreFew spec
+  pub sound : AreSound spec
+  pub apart : AreApart spec

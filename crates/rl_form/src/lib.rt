@@ -1,0 +1,15 @@
+//! Whether the Spec of a machine is well-formed, and has nothing that is not built yet.
+#![tactic(auto)]
+
+mod differ;
+mod expressions;
+mod form;
+mod names;
+mod parts;
+mod scope;
+mod sizes;
+
+pub use form::has_form;
+
+#[cfg(test)]
+mod tests;

@@ -1,0 +1,113 @@
+// The parts of a Spec, each by itself.
+ghost use Rattle.std.specs.Prelude.{◌≡◌, ◌↔◌, IsTrue, All, length};
+ghost use Rattle.rl_automata.specs.Nodes.{node_of};
+ghost use Rattle.rl_model.specs.Specification.{root_of};
+ghost use Rattle.rl_form.specs.Parts.{HasFile, IsTree, IsRoot, IsEntry, IsAction, IsWrite, IsCondition, AreFew, AreSound, scope_of};
+
+use crate::expressions::{is_number, is_sound};
+use crate::names::{is_action_name, is_name};
+use crate::scope::Scope;
+use crate::sizes::{has_nodes, is_within};
+use rl_automata::Tree;
+use rl_model::{ActionDef, Entry, Root, Spec, Write};
+use rl_types::{ActionId, Place};
+
+fn has_file(files: usize, place: &Place) -> bool
+    ensures { IsTrue result ↔ HasFile files place.now }
+{
+    place.file < files as u64
+}
+
+fn have_files(files: usize, places: &[Place]) -> bool
+    ensures { IsTrue result ↔ All (HasFile files) places.now }
+{
+    places.iter().all(|place| has_file(files, place))
+}
+
+// Whether the expression is not too deep, has so many nodes, and all of them are sound. Its depth is looked at first,
+// so that no walk goes deeper.
+fn is_tree(scope: &Scope, nodes: usize, t: &Tree) -> bool
+    ensures { IsTrue result ↔ IsTree scope.now nodes (node_of t.now) }
+{
+    is_within(t, 1999) && has_nodes(t, nodes) && is_sound(scope, t)
+}
+
+fn is_root(scope: &Scope, nodes: usize, root: &Root) -> bool
+    ensures { IsTrue result ↔ IsRoot scope.now nodes (root_of root.now) }
+{
+    match root {
+        Root::Plain(t) => is_tree(scope, nodes, t),
+        Root::Scanner(_) => false,
+    }
+}
+
+fn is_entry(scope: &Scope, e: &Entry) -> bool
+    ensures { IsTrue result ↔ IsEntry scope.now e.now }
+{
+    is_name(e.name.bytes())
+        && e.places.len() <= 100_000
+        && is_root(scope, e.places.len(), &e.root)
+        && have_files(scope.files, e.places.as_slice())
+}
+
+fn are_entries(scope: &Scope, entries: &[Entry]) -> bool
+    ensures { IsTrue result ↔ All (IsEntry scope.now) entries.now }
+{
+    entries.iter().all(|e| is_entry(scope, e))
+}
+
+fn is_action(files: usize, a: &ActionDef) -> bool
+    ensures { IsTrue result ↔ IsAction files a.now }
+{
+    is_action_name(a.name.bytes()) && a.statements.is_empty() && has_file(files, &a.place)
+}
+
+fn are_actions(files: usize, actions: &[ActionDef]) -> bool
+    ensures { IsTrue result ↔ All (IsAction files) actions.now }
+{
+    actions.iter().all(|a| is_action(files, a))
+}
+
+fn are_writes(files: usize, writes: &[Write]) -> bool
+    ensures { IsTrue result ↔ All (IsWrite files) writes.now }
+{
+    writes.iter().all(|w| has_file(files, &w.place))
+}
+
+fn are_conditions(actions: usize, conditions: &[ActionId]) -> bool
+    ensures { IsTrue result ↔ All (IsCondition actions) conditions.now }
+{
+    conditions.iter().all(|c| is_number(actions, c.0))
+}
+
+// Whether there are entries, and not too many of anything.
+pub(crate) fn are_few(spec: &Spec) -> bool
+    ensures { IsTrue result ↔ AreFew spec.now }
+{
+    spec.entries.len() >= 1
+        && spec.entries.len() <= 65_536
+        && spec.actions.len() <= 65_535
+        && spec.conds.len() <= 8
+}
+
+fn scope_of(spec: &Spec) -> Scope
+    ensures { result ≡ scope_of spec.now }
+{
+    Scope {
+        alphabet: spec.alphabet,
+        actions: spec.actions.len(),
+        conditions: spec.conds.len(),
+        files: spec.files.len(),
+    }
+}
+
+// Whether each part is as is asked.
+pub(crate) fn are_sound(spec: &Spec) -> bool
+    ensures { IsTrue result ↔ AreSound spec.now }
+{
+    is_name(spec.machine.bytes())
+        && are_entries(&scope_of(spec), spec.entries.as_slice())
+        && are_actions(spec.files.len(), spec.actions.as_slice())
+        && are_conditions(spec.actions.len(), spec.conds.as_slice())
+        && are_writes(spec.files.len(), spec.writes.as_slice())
+}
