@@ -1,0 +1,5 @@
+pub mod Found
+pub mod FitLaws
+pub mod WriteLaws
+pub mod NameLaws
+pub mod OneCharacterLaws
