@@ -1,0 +1,6 @@
+pub mod RefusalLaws
+pub mod MachineLaws
+pub mod OutcomeLaws
+pub mod AnswerLaws
+pub mod ResolveLaws
+pub mod LimitLaws

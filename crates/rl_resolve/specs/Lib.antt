@@ -1,0 +1,6 @@
+pub mod Descriptions
+pub mod Refusals
+pub mod Limits
+pub mod Machines
+pub mod Resolving
+pub mod Answers

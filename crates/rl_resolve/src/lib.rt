@@ -1,0 +1,19 @@
+//! What a source says: one Spec for each machine, or the first refusal.
+#![tactic(auto)]
+
+mod answer;
+mod drafted;
+mod instances;
+mod limits;
+mod looks;
+mod machines;
+mod memory;
+mod refusals;
+mod source;
+mod spec;
+
+pub use answer::{ResolveFault, Runs};
+pub use source::resolve;
+
+#[cfg(test)]
+mod tests;
