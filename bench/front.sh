@@ -1,12 +1,12 @@
 #!/usr/bin/env bash
-# Times the front end: parts, tokens and syntax of a source of ordinary statements.
+# Times the front end: parts, tokens, syntax and names of a source of ordinary statements.
 #
 #   bench/front.sh [BYTES]
 #
 # The source has BYTES bytes, or the 4,194,304 that a source file may have at most. It stands in a temporary folder, which
-# is removed. Its first definition is refused with F20, which is told only behind the syntax of the whole file, so the
-# seconds are those of reading the file, its parts, its tokens and its trees. RAGEL_RUN names another program than
-# bin/ragel-run, and RUNS how often it is run (3): the least time counts.
+# is removed. It has no entry and is refused with F18, which is told only behind the names and the keys of the whole file,
+# so the seconds are those of reading the file, its parts, its tokens, its trees, its names and its keys. RAGEL_RUN names
+# another program than bin/ragel-run, and RUNS how often it is run (3): the least time counts.
 set -u
 top=$(cd "$(dirname "$0")/.." && pwd) || exit 1
 program=${RAGEL_RUN:-$top/bin/ragel-run}
@@ -50,8 +50,8 @@ size=$(wc -c <m.rl)
 # Once without the clock: the program may have to be built.
 told=$("$program" m.rl t 2>&1)
 case $told in
-  *': F20 not yet') ;;
-  *) echo "bench: not refused with F20: $told" >&2; exit 1 ;;
+  *': F18 no instance') ;;
+  *) echo "bench: not refused with F18: $told" >&2; exit 1 ;;
 esac
 
 TIMEFORMAT=%R

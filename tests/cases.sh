@@ -1,52 +1,89 @@
-# What the tests over cases of an independent reading share; sourced by them. A case is a folder GROUP/NAME: `words` are the
-# words of the program, one a line; `out`, `err` and `status` are what it must give; the files that belong to no program
-# (`c.words`, `m.c`, ..) aside, every other file is there when it runs.
-# RAGEL_RUN names another program than bin/ragel-run, and CASES another folder of cases than the one beside the checkout.
-set -u
-top=$(cd "$(dirname "${BASH_SOURCE[0]}")/.." && pwd) || exit 1
-program=${RAGEL_RUN:-$top/bin/ragel-run}
-cases=${CASES:-$top/../shared/cases}
-test_name=${0##*/}
-test_name=${test_name%.sh}
+#!/usr/bin/env bash
+# The cases of an independent reading, against the program.
+#
+#   tests/cases.sh [GROUP ..]
+#
+# The groups that are built whole, 01-one-literal and 01-several-literals, are run by check.py of the cases, and have to pass.
+# Of each other group (03-names, 04-operators, 05-actions, 06-priorities, 07-state-actions) every case is run. One that gives
+# what it must is good. One that does not is
+#   not built   where it is refused with F20, and `when`, a scanner or a word of action code that steers the run stands in its
+#               source, or in a file that it includes: these are named, with what was found there
+#   not read    where its words or its script have not the form of today: two words of which the first does not end in `.c`,
+#               and a script that opens one session, gives it pieces and ends it
+#   wrong       else: these are named, with their first line on the error output or of the output
+# The status is 1 where a case is wrong or check.py fails, and 0 where none is or nothing could be run.
+. "$(dirname "${BASH_SOURCE[0]}")/common.sh"
+set_up
+find_cases
+wrong=0
 
-say() { printf '%s: %s\n' "$test_name" "$*"; }
-skip() { say "$*: skipped"; exit 0; }
-
-# Skips all where a tool, the program or the cases are missing, and else makes the folder `work`.
-set_up() {
-  local tool
-  for tool in mktemp mkdir cp cmp rm; do command -v "$tool" >/dev/null 2>&1 || skip "no $tool"; done
-  [ -x "$program" ] || skip "no program"
-  [ -n "${RAGEL_RUN:-}" ] || [ -x "$top/crates/ragel_run/out/ragel_run" ] || command -v rt >/dev/null 2>&1 || skip "no program, and no rt to build it"
-  [ -d "$cases" ] || skip "no cases beside the checkout"
-  work=$(mktemp -d) || skip "no temporary folder"
-  trap 'rm -rf "$work"' EXIT
-}
-
-# Whether a folder is a case for this program.
-is_case() { [ -f "$1/words" ] && [ -f "$1/out" ] && [ -f "$1/err" ] && [ -f "$1/status" ]; }
-
-# The first line of a file, in `line`.
-first_line() {
-  line=
-  IFS= read -r line <"$1" || :
-}
-
-# Runs a case in a folder of its own: its output is then in out and err of `work`, and its status in `status`.
-run_case() {
-  local file word
-  words=()
-  while IFS= read -r word || [ -n "$word" ]; do words+=("$word"); done <"$1/words"
-  rm -rf "$work/run" && mkdir "$work/run" || exit 1
-  for file in "$1"/*; do
-    case ${file##*/} in words | out | err | status | c.words | c.out | c.err | c.status | m.c | in | why) ;; *) cp -R "$file" "$work/run/" || exit 1 ;; esac
+# What stands in the files of a case that is not built, in `found`; comments of C that end on their line aside.
+find_unbuilt() {
+  local word
+  found=
+  for word in $(sed 's@/\*[^*]*\*/@@g' "$1"/*.rl | grep -owE 'when|fgoto|fcall|fret|fhold|fexec|fnext|fbreak|fpc|fc|fentry|fcurs|ftargs' | sort -u); do
+    found+="${found:+, }$word"
   done
-  (cd "$work/run" && exec "$program" ${words[@]+"${words[@]}"}) </dev/null >"$work/out" 2>"$work/err"
-  status=$?
+  ! grep -qF '|*' "$1"/*.rl || found+="${found:+, }scanner"
 }
 
-# Whether the case that was run gave exactly what it must.
-is_right() {
-  first_line "$1/status"
-  [ "$status" = "$line" ] && cmp -s "$1/err" "$work/err" && cmp -s "$1/out" "$work/out"
+# Whether the words of a case are read today.
+has_words() {
+  local first second more
+  { IFS= read -r first && IFS= read -r second; ! IFS= read -r more; } <"$1/words"
+  [ -n "${second:-}" ] && [[ $first != *.c ]] && script=$1/$second
 }
+
+# Whether a script is read today.
+has_script() {
+  local text name= ended=
+  while IFS= read -r text || [ -n "$text" ]; do
+    case ${name:+open}$ended in
+      '') [[ $text =~ ^open\ ([A-Za-z0-9_-]+)$ ]] || return 1; name=${BASH_REMATCH[1]} ;;
+      open) if [ "$text" = "end $name" ]; then ended=ended; elif [[ $text != "piece $name "* ]]; then return 1; fi ;;
+      *) return 1 ;;
+    esac
+  done <"$1"
+  [ -n "$ended" ]
+}
+
+run_group() {
+  local folder good=0 all=0 unread=0 unbuilt=0 names= got
+  for folder in "$cases/$1"/*/; do
+    folder=${folder%/}
+    is_case "$folder" || continue
+    all=$((all + 1))
+    run_case "$folder"
+    if is_right "$folder"; then
+      good=$((good + 1))
+      continue
+    fi
+    first_line "$work/err"
+    got=$line
+    find_unbuilt "$folder"
+    if ! has_words "$folder" || { [ "$status" = 7 ] && ! has_script "$script"; }; then
+      unread=$((unread + 1))
+    elif [[ $got = *': F20 not yet' ]] && [ -n "$found" ]; then
+      unbuilt=$((unbuilt + 1))
+      names+=" ${folder##*/} ($found)"
+    else
+      [ -n "$got" ] || { first_line "$work/out"; got=$line; }
+      say "$1/${folder##*/}: wrong, status $status, '$got'"
+      wrong=1
+    fi
+  done
+  say "$1: $good of $all are good, $unread are not read, $unbuilt are not built${names:+:$names}"
+}
+
+if [ $# -eq 0 ]; then
+  if command -v python3 >/dev/null 2>&1 && [ -f "$cases/check.py" ]; then
+    python3 "$cases/check.py" --run "$program" 01-one-literal 01-several-literals || wrong=1
+  else
+    say "no check.py beside the cases, or no python3: the groups 01 are skipped"
+  fi
+  set -- 03-names 04-operators 05-actions 06-priorities 07-state-actions
+fi
+for group; do
+  if [ -d "$cases/$group" ]; then run_group "$group"; else say "no group $group: skipped"; fi
+done
+exit "$wrong"

@@ -2,6 +2,10 @@ pub mod Unbroken
 pub mod Logged
 pub mod Broken
 pub mod Behind
-pub mod Steps
+pub mod ReadLaws
+pub mod NodeLaws
+pub mod SourceLaws
 pub mod Complete
+pub mod StartLaws
 pub mod Prescribed
+pub mod Steps

@@ -8,6 +8,7 @@ mod outside;
 mod refusal;
 mod replay;
 mod session;
+mod source;
 #[cfg(test)]
 mod tests;
 mod to_end;

@@ -1,32 +1,12 @@
-// What a replay reads and writes.
+// The script of a replay, and its output.
 ghost use Rattle.std.specs.Prelude.{◌≡◌};
-ghost use Rattle.ragel_run.specs.Replay.{ReadsSpec, ReadsScript, WritesLines};
+ghost use Rattle.ragel_run.specs.Reads.{ReadsScript, WritesLines};
 
 use crate::refusal::Refusal;
 use rl_io::{Sink, SinkFault, Store, StoreFault};
-use rl_reading::{ReadFault, Source, read_source};
 use rl_replay::ScriptFault;
 use rl_script::{OneSession, read_one_session};
 use std::alloc::Global;
-
-// The source under a name.
-pub fn read_spec<S: Store>(alloc: Global, name: &str, store: &mut S) -> Result<Source, Refusal>
-    ensures reads { ReadsSpec (S.held store.old) name.now (S.faults store.old) (S.faults store.new) result }
-    ensures same { S.held store.new ≡ S.held store.old }
-{
-    let text = match store.read(name) {
-        Ok(text) => text,
-        Err(StoreFault::Missing) => return Err(Refusal::NoSpec),
-        Err(StoreFault::Failed) => return Err(Refusal::SpecFailed),
-        Err(StoreFault::Memory) => return Err(Refusal::Memory),
-    };
-    match read_source(alloc, &text) {
-        Ok(source) => Ok(source),
-        Err(ReadFault::Fault(fault)) => Err(Refusal::Fault(fault)),
-        Err(ReadFault::Limit(limit)) => Err(Refusal::Limit(limit)),
-        Err(ReadFault::Memory) => Err(Refusal::Memory),
-    }
-}
 
 // The script under a name.
 pub fn read_script<S: Store>(

@@ -1,23 +1,18 @@
 // Why a replay ends before its end.
-use rl_types::{Fault, Limit};
+use rl_includes::Stop;
 
 /// Why a replay ends before its end.
-#[derive(Clone, Copy, Debug, PartialEq, Eq)]
+#[derive(Drop)]
 pub enum Refusal {
     /// The words are not the names of a source and a script.
     Usage,
-    /// No file has the source's name.
-    NoSpec,
+    /// The source has no machine to run: its first fault, or the first limit that it passes, with the name of the file
+    /// that has it; or the file of it that is missing, or at which the store failed.
+    Source(Stop),
     /// No file has the script's name.
     NoScript,
-    /// The store failed to read the source.
-    SpecFailed,
     /// The store failed to read the script.
     ScriptFailed,
-    /// The first fault of the source.
-    Fault(Fault),
-    /// The first limit that the source passes.
-    Limit(Limit),
     /// The first line of the script, from 1, that is not the due one.
     BadLine(u64),
     /// The output failed.

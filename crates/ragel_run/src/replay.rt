@@ -1,10 +1,12 @@
 // A replay of a script on a source.
 ghost use Rattle.std.specs.Prelude.{◌≡◌, IfOk, IfErr, MatchOption};
-ghost use Rattle.ragel_run.specs.Replay.{AreWords, AreNoWords, Ends, EndsWith, HasCause, IsComplete, Refuses, Replays, outside as outside_of};
+ghost use Rattle.ragel_run.specs.Replay.{AreWords, AreNoWords, Ends, HasCause, Refuses, Replays, outside as outside_of};
+ghost use Rattle.ragel_run.specs.Told.{EndsWith, IsComplete};
 
-use crate::outside::{read_script, read_spec, write_lines};
+use crate::outside::{read_script, write_lines};
 use crate::refusal::Refusal;
 use crate::session::lines_for;
+use crate::source::read_source;
 use crate::told::{status_for, tell};
 use rl_io::{Sink, Source, Store};
 use rl_types::{Status, Text};
@@ -33,15 +35,15 @@ fn due_lines<S: Store>(alloc: Global, words: &[Text], store: &mut S) -> Result<V
     let Some((spec_name, script_name)) = words_of(words) else {
         return Err(Refusal::Usage);
     };
-    let source = match read_spec(alloc, spec_name, store) {
-        Ok(source) => source,
+    let tables = match read_source(alloc, spec_name, store) {
+        Ok(tables) => tables,
         Err(refusal) => return Err(refusal),
     };
     let script = match read_script(alloc, script_name, store) {
         Ok(script) => script,
         Err(refusal) => return Err(refusal),
     };
-    match lines_for(alloc, &source, &script) {
+    match lines_for(alloc, &tables, &script) {
         Ok(lines) => Ok(lines),
         Err(_) => Err(Refusal::Memory),
     }
@@ -64,16 +66,17 @@ fn run<S: Store, O: Sink>(
 }
 
 /// All that the program `ragel-run` does: it replays a script on a source, prints the lines of the run on `out`, and
-/// answers with its status. The words are the names of the source and of the script (this profile).
+/// answers with its status. The words are the names of the source and of the script (this profile). The machine that runs is
+/// the first of the source, from the entry `main` on, or from the first where none has that name.
 ///
-/// - `Done`: both were read, and `out` gained exactly the lines that the source's expression prescribes for the script.
+/// - `Done`: both were read, and `out` gained exactly the lines that the source's expressions prescribe for the script.
 /// - `Usage`: the words are not two, or the first ends in `.c`. The line on `err` is `usage`.
-/// - `Source`: the source has a fault; the first is named with its place, as in `NAME:1:24: F3 syntax`. F20 stands for
-///   what is not built yet.
+/// - `Source`: the source has a fault, or a file that it includes; the first is named with its file and its place, as in
+///   `NAME:1:24: F3 syntax`. F20 stands for what is not built yet.
 /// - `Limit`: the source passes a limit; the first is named, as in `NAME:1:152: L3 parentheses`.
 /// - `Script`: a line of the script is not the due one; the first such is named, as in `NAME:2: bad line`.
-/// - `Outside`: a name is in no file (`NAME: missing`), or the store or the output failed in this call
-///   (`NAME: store failed`, `output failed`).
+/// - `Outside`: the source, a file that it includes, or the script is in no file (`NAME: missing`), or the store or the
+///   output failed in this call (`NAME: store failed`, `output failed`).
 /// - `Memory`: want of memory (`out of memory`). It may come in place of any other status but `Usage`.
 ///
 /// Nothing is written to `out` before the run, and a failed output has a prefix of the lines. The store holds what it

@@ -5,14 +5,10 @@ use rl_types::{Status, Text};
 use std::alloc::Global;
 use std::test::Fail;
 
-const ONE: &str = "%%{ machine one; action x { } main := 'ab' $x; }%%";
-
-const RUN: &str = "open s\npiece s \"ab\"\nend s\n";
-
-// The names and texts of the two files, the calls of the store and of the output that fail, and what is to come.
+// The names and texts of the files, the calls of the store and of the output that fail, and what is to come.
 #[derive(Clone, Copy)]
 struct Row {
-    files: [(&'static str, &'static str); 2],
+    files: &'static [(&'static str, &'static str)],
     words: &'static [&'static str],
     store_fails: u64,
     out_fails: u64,
@@ -22,8 +18,11 @@ struct Row {
 }
 
 const RAN: Row = Row {
-    files: [("one.rl", ONE), ("t", RUN)],
-    words: &["one.rl", "t"],
+    files: &[
+        ("m.rl", "%%{ machine one; action x { } main := 'ab' $x; }%%"),
+        ("t", "open s\npiece s \"ab\"\nend s\n"),
+    ],
+    words: &["m.rl", "t"],
     store_fails: 0,
     out_fails: 0,
     status: Status::Done,
@@ -31,185 +30,662 @@ const RAN: Row = Row {
     err: "",
 };
 
-const STOPPED: Row = Row {
-    files: [("one.rl", ONE), ("t", "open s\npiece s \"ac\"\nend s\n")],
-    out: "s do x 0\ns stop error 1\ns end error 1\n",
-    ..RAN
-};
+// A row that writes nothing.
+const EMPTY: Row = Row { out: "", ..RAN };
 
-const SEVERAL: Row = Row {
-    files: [
-        (
-            "m.rl",
-            "%%{ machine m; action x { n++; } action y { } main := 'a' $x . \"b\\n\" $(y) 'c'; }%% tail",
-        ),
-        ("t", "open s\npiece s \"ab\"\nend s\n"),
+const NULL: Row = Row {
+    files: &[
+        ("m.rl", "%%{ machine m; main := ''; }%%"),
+        ("t", "open s\nend s\n"),
     ],
-    words: &["m.rl", "t"],
-    out: "s do x 0\ns do y 1\ns end partial 2\n",
-    ..RAN
+    out: "s end final 0\n",
+    ..EMPTY
 };
 
 const NO_PIECE: Row = Row {
-    files: [("one.rl", ONE), ("t", "open s\nend s\n")],
+    files: &[
+        ("m.rl", "%%{ machine m; main := 'a'; }%%"),
+        ("t", "open s\nend s\n"),
+    ],
     out: "s end partial 0\n",
-    ..RAN
+    ..EMPTY
+};
+
+const NOTHING: Row = Row {
+    files: &[
+        ("m.rl", "%%{ machine m; main := empty; }%%"),
+        ("t", "open s\nend s\n"),
+    ],
+    out: "s end partial 0\n",
+    ..EMPTY
+};
+
+const STOPPED: Row = Row {
+    files: &[
+        ("m.rl", "%%{ machine m; action x { } main := 'ab' $x; }%%"),
+        ("t", "open s\npiece s \"ac\"\npiece s \"ab\"\nend s\n"),
+    ],
+    out: "s do x 0\ns stop error 1\ns end error 1\n",
+    ..EMPTY
+};
+
+const ROUNDS: Row = Row {
+    files: &[
+        (
+            "m.rl",
+            "%%{ machine m; action A { } action B { } main := ('a' >A %B)*; }%%",
+        ),
+        ("t", "open s\npiece s \"aa\"\nend s\n"),
+    ],
+    out: "s do A 0\ns do B 1\ns do A 1\ns eof B 2\ns end final 2\n",
+    ..EMPTY
+};
+
+const WORDS: Row = Row {
+    files: &[
+        (
+            "m.rl",
+            "%%{ machine m; action act { } word = [a-z]+ %act; main := word ('\\n' word)* '\\n\\n'; }%%",
+        ),
+        ("t", "open s\npiece s \"ab\\ncd\\n\\n\"\nend s\n"),
+    ],
+    out: "s do act 2\ns do act 5\ns end final 7\n",
+    ..EMPTY
+};
+
+const ENTERS: Row = Row {
+    files: &[
+        (
+            "m.rl",
+            "%%{ machine m; action A { } action C { } main := ('' >A) . 'b' >C; }%%",
+        ),
+        ("t", "open s\npiece s \"b\"\nend s\n"),
+    ],
+    out: "s do A 0\ns do C 0\ns end final 1\n",
+    ..EMPTY
+};
+
+const BOTH: Row = Row {
+    files: &[
+        (
+            "m.rl",
+            "%%{ machine m; action A { } main := ('ab' $A) & 'ac'; }%%",
+        ),
+        ("t", "open s\npiece s \"a\"\nend s\n"),
+    ],
+    out: "s stop error 0\ns end error 0\n",
+    ..EMPTY
+};
+
+const MINUS: Row = Row {
+    files: &[
+        (
+            "m.rl",
+            "%%{ machine m; action Z { } main := ( 'ab' | 'ac' ) - ( 'ab' $Z ); }%%",
+        ),
+        ("t", "open s\npiece s \"ac\"\nend s\n"),
+    ],
+    out: "s do Z 0\ns end final 2\n",
+    ..EMPTY
+};
+
+const MINUS_CUT: Row = Row {
+    files: &[
+        (
+            "m.rl",
+            "%%{ machine m; action Z { } main := ( 'ab' | 'ac' ) - ( 'ab' $Z ); }%%",
+        ),
+        ("t", "open s\npiece s \"ab\"\nend s\n"),
+    ],
+    out: "s do Z 0\ns stop error 1\ns end error 1\n",
+    ..EMPTY
+};
+
+const UP_TO: Row = Row {
+    files: &[
+        (
+            "m.rl",
+            "%%{ machine m; action fin { } main := any* :>> '*/' @fin; }%%",
+        ),
+        ("t", "open s\npiece s \"x*/\"\nend s\n"),
+    ],
+    out: "s do fin 2\ns end final 3\n",
+    ..EMPTY
+};
+
+const BEHIND: Row = Row {
+    files: &[
+        (
+            "m.rl",
+            "%%{ machine m; action fin { } main := any* :>> '*/' @fin; }%%",
+        ),
+        ("t", "open s\npiece s \"x*/y\"\nend s\n"),
+    ],
+    out: "s do fin 2\ns stop error 3\ns end error 3\n",
+    ..EMPTY
+};
+
+const HIGHER: Row = Row {
+    files: &[
+        (
+            "m.rl",
+            "%%{ machine m; action X { } action Y { } main := 'a' $X $1 | 'a' $Y $0; }%%",
+        ),
+        ("t", "open s\npiece s \"a\"\nend s\n"),
+    ],
+    out: "s do X 0\ns end final 1\n",
+    ..EMPTY
+};
+
+const EQUAL: Row = Row {
+    files: &[
+        (
+            "m.rl",
+            "%%{ machine m; action X { } action Y { } main := 'a' $X $0 | 'a' $Y $0; }%%",
+        ),
+        ("t", "open s\npiece s \"a\"\nend s\n"),
+    ],
+    out: "s do X 0\ns do Y 0\ns end final 1\n",
+    ..EMPTY
+};
+
+const UNNAMED: Row = Row {
+    files: &[
+        ("m.rl", "%%{ machine m; main := 'a' @{ n++; }; }%%"),
+        ("t", "open s\npiece s \"a\"\nend s\n"),
+    ],
+    out: "s do @1:29 0\ns end final 1\n",
+    ..EMPTY
+};
+
+const THIRTEEN: Row = Row {
+    files: &[
+        ("m.rl", "%%{ machine m; main := any* 'a' any{13}; }%%"),
+        ("t", "open s\npiece s \"axxxxxxxxxxxxx\"\nend s\n"),
+    ],
+    out: "s end final 14\n",
+    ..EMPTY
+};
+
+const TWELVE: Row = Row {
+    files: &[
+        ("m.rl", "%%{ machine m; main := any* 'a' any{13}; }%%"),
+        ("t", "open s\npiece s \"axxxxxxxxxxxx\"\nend s\n"),
+    ],
+    out: "s end partial 13\n",
+    ..EMPTY
+};
+
+const STAMPS: Row = Row {
+    files: &[
+        (
+            "m.rl",
+            "%%{ machine m; action x { } action y { } main := ( 'a' $x | 'aa' $y )*; }%%",
+        ),
+        ("t", "open s\npiece s \"aa\"\nend s\n"),
+    ],
+    out: "s do x 0\ns do y 0\ns do y 1\ns do x 1\ns end final 2\n",
+    ..EMPTY
+};
+
+const ENTERING_FIRST: Row = Row {
+    files: &[
+        (
+            "m.rl",
+            "%%{ machine m; action F { } action E { } main := ( 'a' @F >E ); }%%",
+        ),
+        ("t", "open s\npiece s \"a\"\nend s\n"),
+    ],
+    out: "s do E 0\ns do F 0\ns end final 1\n",
+    ..EMPTY
+};
+
+const LONGEST: Row = Row {
+    files: &[
+        (
+            "m.rl",
+            "%%{ machine m; action A { } main := ( [a-z]+ >A )**; }%%",
+        ),
+        ("t", "open s\npiece s \"ab\"\nend s\n"),
+    ],
+    out: "s do A 0\ns end final 2\n",
+    ..EMPTY
+};
+
+const EACH: Row = Row {
+    files: &[
+        (
+            "m.rl",
+            "%%{ machine m; action A { } main := ( [a-z]+ >A )*; }%%",
+        ),
+        ("t", "open s\npiece s \"ab\"\nend s\n"),
+    ],
+    out: "s do A 0\ns do A 1\ns end final 2\n",
+    ..EMPTY
+};
+
+const LONGEST_LEFT: Row = Row {
+    files: &[
+        (
+            "m.rl",
+            "%%{ machine m; action A { } action B { } main := ( 'a' >A )** 'a' @B; }%%",
+        ),
+        ("t", "open s\npiece s \"aa\"\nend s\n"),
+    ],
+    out: "s do A 0\ns do B 0\ns do A 1\ns do B 1\ns end final 2\n",
+    ..EMPTY
 };
 
 const TWO_PIECES: Row = Row {
-    files: [
+    files: &[
         (
             "m.rl",
             "%%{ machine m; action x { } action y { } main := 'a' $x . \"b\\n\" $(y) 'c'; }%%",
         ),
         ("t", "open s\npiece s \"a\"\npiece s \"b\\n\\x63\"\nend s\n"),
     ],
-    words: &["m.rl", "t"],
     out: "s do x 0\ns do y 1\ns do y 2\ns end final 4\n",
-    ..RAN
+    ..EMPTY
 };
 
-const STOPPED_FOR_GOOD: Row = Row {
-    files: [
-        ("one.rl", ONE),
-        ("t", "open s\npiece s \"ac\"\npiece s \"ab\"\nend s\n"),
+const STATES: Row = Row {
+    files: &[
+        (
+            "m.rl",
+            "%%{ machine m; action t { } action f { } main := 'ab' $~t $*f; }%%",
+        ),
+        ("t", "open s\npiece s \"abx\"\nend s\n"),
     ],
-    out: "s do x 0\ns stop error 1\ns end error 1\n",
-    ..RAN
+    out: "s from f 0\ns to t 0\ns from f 1\ns to t 1\ns from f 2\ns stop error 2\ns end error 2\n",
+    ..EMPTY
 };
 
-const NOT_BUILT: Row = Row {
-    files: [
-        ("m.rl", "%%{ machine m; main := 'a' | 'b'; }%%"),
-        ("t", RUN),
+const ERROR: Row = Row {
+    files: &[
+        (
+            "m.rl",
+            "%%{ machine m; action oops { } main := 'ab' $!oops; }%%",
+        ),
+        ("t", "open s\npiece s \"ac\"\nend s\n"),
     ],
-    words: &["m.rl", "t"],
-    status: Status::Source,
-    out: "",
-    err: "m.rl:1:28: F20 not yet\n",
-    ..RAN
+    out: "s error oops 1\ns stop error 1\ns end error 1\n",
+    ..EMPTY
 };
 
-const NO_MACHINE: Row = Row {
-    files: [("m.rl", "%%{ main := 'a'; }%%"), ("t", RUN)],
-    words: &["m.rl", "t"],
-    status: Status::Source,
-    out: "",
-    err: "m.rl:1:1: F20 not yet\n",
-    ..RAN
+const ERROR_AT_END: Row = Row {
+    files: &[
+        (
+            "m.rl",
+            "%%{ machine m; action oops { } main := 'ab' $!oops; }%%",
+        ),
+        ("t", "open s\npiece s \"a\"\nend s\n"),
+    ],
+    out: "s eof oops 1\ns end partial 1\n",
+    ..EMPTY
 };
 
-const NO_ACTION: Row = Row {
-    files: [("m.rl", "%%{ machine m; main := 'a' $x; }%%"), ("t", RUN)],
-    words: &["m.rl", "t"],
+const FIRST_MACHINE: Row = Row {
+    files: &[
+        (
+            "m.rl",
+            "%%{ machine one; main := 'a'; }%%\n%%{ machine two; main := 'b'; }%%\n",
+        ),
+        ("t", "open s\npiece s \"a\"\nend s\n"),
+    ],
+    out: "s end final 1\n",
+    ..EMPTY
+};
+
+const MAIN_IS_SECOND: Row = Row {
+    files: &[
+        ("m.rl", "%%{ machine m; other := 'b'; main := 'a'; }%%"),
+        ("t", "open s\npiece s \"a\"\nend s\n"),
+    ],
+    out: "s end final 1\n",
+    ..EMPTY
+};
+
+const INCLUDES: Row = Row {
+    files: &[
+        ("m.rl", "%%{ machine m; include 'b.rl'; main := word; }%%"),
+        ("b.rl", "%%{ machine m; action x { } word = 'a' $x; }%%"),
+        ("t", "open s\npiece s \"a\"\nend s\n"),
+    ],
+    out: "s do x 0\ns end final 1\n",
+    ..EMPTY
+};
+
+const UNKNOWN: Row = Row {
+    files: &[
+        ("m.rl", "%%{ machine m; main := nope; }%%"),
+        ("t", "open s\npiece s \"ab\"\nend s\n"),
+    ],
     status: Status::Source,
-    out: "",
-    err: "m.rl:1:29: F20 not yet\n",
-    ..RAN
+    err: "m.rl:1:24: F5 unknown name\n",
+    ..EMPTY
+};
+
+const ENDS: Row = Row {
+    files: &[
+        ("m.rl", "%%{ machine m; main := 9..1; }%%"),
+        ("t", "open s\npiece s \"ab\"\nend s\n"),
+    ],
+    status: Status::Source,
+    err: "m.rl:1:24: F9 range ends\n",
+    ..EMPTY
 };
 
 const UNCLOSED: Row = Row {
-    files: [("m.rl", "%%{ machine m; action a { "), ("t", RUN)],
-    words: &["m.rl", "t"],
+    files: &[
+        ("m.rl", "%%{ machine m; action a { "),
+        ("t", "open s\npiece s \"ab\"\nend s\n"),
+    ],
     status: Status::Source,
-    out: "",
     err: "m.rl:1:25: F2 unclosed\n",
-    ..RAN
-};
-
-const WRONG_SIGN: Row = Row {
-    files: [("m.rl", "%%{ machine m; main := 'a' ^ ; }%%"), ("t", RUN)],
-    words: &["m.rl", "t"],
-    status: Status::Source,
-    out: "",
-    err: "m.rl:1:30: F3 syntax\n",
-    ..RAN
+    ..EMPTY
 };
 
 const WRONG_START: Row = Row {
-    files: [("m.rl", "%%{ machine m; main := ) ; }%%"), ("t", RUN)],
-    words: &["m.rl", "t"],
+    files: &[
+        ("m.rl", "%%{ machine m; main := ) ; }%%"),
+        ("t", "open s\npiece s \"ab\"\nend s\n"),
+    ],
     status: Status::Source,
-    out: "",
     err: "m.rl:1:24: F3 syntax\n",
-    ..RAN
+    ..EMPTY
+};
+
+const CYCLE: Row = Row {
+    files: &[
+        (
+            "m.rl",
+            "%%{ machine m; main := 'k'{0,2} . ( 'a' $(p,1) $(r,0) | 'k' . 'a' $(p,0) $(q,1) | 'kk' . 'a' $(q,0) $(r,1) ); }%%",
+        ),
+        ("t", "open s\npiece s \"ab\"\nend s\n"),
+    ],
+    status: Status::Source,
+    err: "m.rl:1:24: F15 priority cycle\n",
+    ..EMPTY
+};
+
+const TOO_MANY: Row = Row {
+    files: &[
+        ("m.rl", "%%{ machine m; main := any* 'a' any{15}; }%%"),
+        ("t", "open s\npiece s \"ab\"\nend s\n"),
+    ],
+    status: Status::Limit,
+    err: "m.rl:1:24: L6 configurations\n",
+    ..EMPTY
+};
+
+const NO_MACHINE: Row = Row {
+    files: &[
+        ("m.rl", "%%{ main := 'a'; }%%"),
+        ("t", "open s\npiece s \"ab\"\nend s\n"),
+    ],
+    status: Status::Source,
+    err: "m.rl:1:5: F4 no machine\n",
+    ..EMPTY
+};
+
+const NO_INSTANCE: Row = Row {
+    files: &[
+        ("m.rl", "%%{ machine m; }%%"),
+        ("t", "open s\npiece s \"ab\"\nend s\n"),
+    ],
+    status: Status::Source,
+    err: "m.rl:1:1: F18 no instance\n",
+    ..EMPTY
+};
+
+const NOT_BUILT: Row = Row {
+    files: &[
+        (
+            "m.rl",
+            "%%{ machine m; action x { } main := 'a' when x; }%%",
+        ),
+        ("t", "open s\npiece s \"ab\"\nend s\n"),
+    ],
+    status: Status::Source,
+    err: "m.rl:1:41: F20 not yet\n",
+    ..EMPTY
 };
 
 const TOO_DEEP: Row = Row {
-    files: [
+    files: &[
         (
             "m.rl",
             "%%{ machine m; main := ((((((((((((((((((((((((((((((((((((((((((((((((((((((((((((((((((((((((((((((((((((((((((((((((((((((((((((((((((((((((((((((((('a'; }%%",
         ),
-        ("t", RUN),
+        ("t", "open s\npiece s \"ab\"\nend s\n"),
     ],
-    words: &["m.rl", "t"],
     status: Status::Limit,
-    out: "",
     err: "m.rl:1:152: L3 parentheses\n",
-    ..RAN
+    ..EMPTY
+};
+
+const LOOP: Row = Row {
+    files: &[
+        ("m.rl", "%%{ machine m; include 'b.rl'; main := 'a'; }%%"),
+        ("b.rl", "%%{ machine m; include 'm.rl'; }%%"),
+        ("t", "open s\npiece s \"ab\"\nend s\n"),
+    ],
+    status: Status::Source,
+    err: "b.rl:1:16: F17 include loop\n",
+    ..EMPTY
+};
+
+const NO_INCLUDE: Row = Row {
+    files: &[
+        ("m.rl", "%%{ machine m; include 'b.rl'; main := 'a'; }%%"),
+        ("t", "open s\npiece s \"ab\"\nend s\n"),
+    ],
+    status: Status::Outside,
+    err: "b.rl: missing\n",
+    ..EMPTY
+};
+
+const INCLUDE_FAILED: Row = Row {
+    files: &[
+        ("m.rl", "%%{ machine m; include 'b.rl'; main := 'a'; }%%"),
+        ("t", "open s\npiece s \"ab\"\nend s\n"),
+    ],
+    store_fails: 4,
+    status: Status::Outside,
+    err: "b.rl: store failed\n",
+    ..EMPTY
+};
+
+const BEFORE_FAILURE: Row = Row {
+    files: &[
+        (
+            "m.rl",
+            "%%{ machine m; x = nope; include 'b.rl'; main := 'a'; }%%",
+        ),
+        ("t", "open s\npiece s \"ab\"\nend s\n"),
+    ],
+    store_fails: 4,
+    status: Status::Source,
+    err: "m.rl:1:20: F5 unknown name\n",
+    ..EMPTY
+};
+
+const INCLUDED_FAULT: Row = Row {
+    files: &[
+        ("m.rl", "%%{ machine m; include 'b.rl'; main := 'a'; }%%"),
+        ("b.rl", "%%{ machine m; x := ) ; }%%"),
+        ("t", "open s\npiece s \"ab\"\nend s\n"),
+    ],
+    status: Status::Source,
+    err: "b.rl:1:21: F3 syntax\n",
+    ..EMPTY
+};
+
+const INCLUDED_NODE: Row = Row {
+    files: &[
+        ("x/m.rl", "%%{ machine m; include 'b.rl'; main := y; }%%"),
+        ("x/b.rl", "%%{ machine m; y = any* 'a' any{15}; }%%"),
+        ("t", "open s\npiece s \"ab\"\nend s\n"),
+    ],
+    words: &["x/m.rl", "t"],
+    status: Status::Limit,
+    err: "x/b.rl:1:20: L6 configurations\n",
+    ..EMPTY
 };
 
 const BAD_LINE: Row = Row {
-    files: [("one.rl", ONE), ("t", "end s\n")],
+    files: &[
+        ("m.rl", "%%{ machine one; action x { } main := 'ab' $x; }%%"),
+        ("t", "end s\n"),
+    ],
     status: Status::Script,
-    out: "",
     err: "t:1: bad line\n",
-    ..RAN
+    ..EMPTY
 };
 
 const COMMENT: Row = Row {
-    files: [("one.rl", ONE), ("t", "open s\n# a comment\nend s\n")],
+    files: &[
+        ("m.rl", "%%{ machine one; action x { } main := 'ab' $x; }%%"),
+        ("t", "open s\n# a comment\nend s\n"),
+    ],
+    status: Status::Script,
     err: "t:2: bad line\n",
-    ..BAD_LINE
+    ..EMPTY
 };
 
 const NO_END: Row = Row {
-    files: [("one.rl", ONE), ("t", "open s\npiece s \"a\"\n")],
+    files: &[
+        ("m.rl", "%%{ machine one; action x { } main := 'ab' $x; }%%"),
+        ("t", "open s\npiece s \"a\"\n"),
+    ],
+    status: Status::Script,
     err: "t:3: bad line\n",
-    ..BAD_LINE
+    ..EMPTY
 };
 
 const MISSING: Row = Row {
+    files: &[
+        ("m.rl", "%%{ machine one; action x { } main := 'ab' $x; }%%"),
+        ("t", "open s\npiece s \"ab\"\nend s\n"),
+    ],
     words: &["no.rl", "t"],
     status: Status::Outside,
-    out: "",
     err: "no.rl: missing\n",
-    ..RAN
+    ..EMPTY
+};
+
+const NO_SCRIPT: Row = Row {
+    files: &[
+        ("m.rl", "%%{ machine one; action x { } main := 'ab' $x; }%%"),
+        ("t", "open s\npiece s \"ab\"\nend s\n"),
+    ],
+    words: &["m.rl", "no.t"],
+    status: Status::Outside,
+    err: "no.t: missing\n",
+    ..EMPTY
 };
 
 const STORE_FAILED: Row = Row {
+    files: &[
+        ("m.rl", "%%{ machine one; action x { } main := 'ab' $x; }%%"),
+        ("t", "open s\npiece s \"ab\"\nend s\n"),
+    ],
     words: &["no.rl", "t"],
     store_fails: 3,
     status: Status::Outside,
-    out: "",
     err: "no.rl: store failed\n",
-    ..RAN
+    ..EMPTY
 };
 
 const OUTPUT_FAILED: Row = Row {
+    files: &[
+        ("m.rl", "%%{ machine one; action x { } main := 'ab' $x; }%%"),
+        ("t", "open s\npiece s \"ab\"\nend s\n"),
+    ],
     out_fails: 1,
     status: Status::Outside,
-    out: "",
     err: "output failed\n",
-    ..RAN
+    ..EMPTY
 };
 
 const NO_WORDS: Row = Row {
+    files: &[
+        ("m.rl", "%%{ machine one; action x { } main := 'ab' $x; }%%"),
+        ("t", "open s\npiece s \"ab\"\nend s\n"),
+    ],
     words: &[],
     status: Status::Usage,
-    out: "",
     err: "usage\n",
-    ..RAN
+    ..EMPTY
 };
 
 const PRINTED: Row = Row {
+    files: &[
+        ("m.rl", "%%{ machine one; action x { } main := 'ab' $x; }%%"),
+        ("t", "open s\npiece s \"ab\"\nend s\n"),
+    ],
     words: &["one.c", "t"],
     status: Status::Usage,
-    out: "",
     err: "usage\n",
-    ..RAN
+    ..EMPTY
 };
+
+const EXPRESSIONS: [&Row; 9] = [
+    &RAN, &NULL, &NO_PIECE, &NOTHING, &STOPPED, &ROUNDS, &WORDS, &ENTERS, &BOTH,
+];
+
+const OPERATORS: [&Row; 9] = [
+    &MINUS, &MINUS_CUT, &UP_TO, &BEHIND, &HIGHER, &EQUAL, &UNNAMED, &THIRTEEN, &TWELVE,
+];
+
+const NAMES: [&Row; 12] = [
+    &STATES,
+    &ERROR,
+    &ERROR_AT_END,
+    &STAMPS,
+    &ENTERING_FIRST,
+    &LONGEST,
+    &EACH,
+    &LONGEST_LEFT,
+    &TWO_PIECES,
+    &FIRST_MACHINE,
+    &MAIN_IS_SECOND,
+    &INCLUDES,
+];
+
+const FAULTS: [&Row; 9] = [
+    &UNKNOWN,
+    &ENDS,
+    &UNCLOSED,
+    &WRONG_START,
+    &CYCLE,
+    &TOO_MANY,
+    &NO_MACHINE,
+    &NO_INSTANCE,
+    &NOT_BUILT,
+];
+
+const FILES: [&Row; 7] = [
+    &TOO_DEEP,
+    &LOOP,
+    &NO_INCLUDE,
+    &INCLUDE_FAILED,
+    &BEFORE_FAILURE,
+    &INCLUDED_FAULT,
+    &INCLUDED_NODE,
+];
+
+const FAILURES: [&Row; 9] = [
+    &BAD_LINE,
+    &COMMENT,
+    &NO_END,
+    &MISSING,
+    &NO_SCRIPT,
+    &STORE_FAILED,
+    &OUTPUT_FAILED,
+    &NO_WORDS,
+    &PRINTED,
+];
 
 // What a replay left.
 #[derive(Drop)]
@@ -219,7 +695,7 @@ struct Left {
     err: MemSink,
 }
 
-// A store with the two files, whose call with this number fails; 1 and 2 write the files.
+// A store with the files, whose call with this number fails; the first calls write the files.
 fn store_of(alloc: Global, row: &Row) -> Result<MemStore, Fail> {
     let mut store = MemStore::new(alloc, Vec::new(alloc), vec![in alloc; row.store_fails]?);
     for (name, text) in row.files.iter() {
@@ -257,51 +733,49 @@ fn comes(alloc: Global, row: &Row) -> Result<bool, Fail> {
     )
 }
 
-#[test]
-fn scripts_come(rt: HostRuntime) -> Result<(), Fail> {
-    let alloc = rt.alloc();
-    let rows = [
-        &RAN,
-        &STOPPED,
-        &NO_PIECE,
-        &TWO_PIECES,
-        &STOPPED_FOR_GOOD,
-        &BAD_LINE,
-        &COMMENT,
-        &NO_END,
-    ];
-    for row in rows {
-        assert!(rt; comes(alloc, row)?, "{}", row.err);
+// The place of the first row that does not come as it is to.
+fn first_wrong(alloc: Global, rows: &[&Row]) -> Result<Option<usize>, Fail> {
+    for (place, row) in rows.iter().enumerate() {
+        if !comes(alloc, row)? {
+            return Ok(Some(place));
+        }
     }
+    Ok(None)
+}
+
+#[test]
+fn expressions_come(rt: HostRuntime) -> Result<(), Fail> {
+    assert_eq!(rt; first_wrong(rt.alloc(), &EXPRESSIONS)?, None);
     Ok(())
 }
 
 #[test]
-fn sources_come(rt: HostRuntime) -> Result<(), Fail> {
-    let alloc = rt.alloc();
-    let rows = [
-        &SEVERAL,
-        &NOT_BUILT,
-        &NO_MACHINE,
-        &NO_ACTION,
-        &UNCLOSED,
-        &WRONG_SIGN,
-        &WRONG_START,
-        &TOO_DEEP,
-    ];
-    for row in rows {
-        assert!(rt; comes(alloc, row)?, "{}", row.err);
-    }
+fn operators_come(rt: HostRuntime) -> Result<(), Fail> {
+    assert_eq!(rt; first_wrong(rt.alloc(), &OPERATORS)?, None);
+    Ok(())
+}
+
+#[test]
+fn names_come(rt: HostRuntime) -> Result<(), Fail> {
+    assert_eq!(rt; first_wrong(rt.alloc(), &NAMES)?, None);
+    Ok(())
+}
+
+#[test]
+fn faults_come(rt: HostRuntime) -> Result<(), Fail> {
+    assert_eq!(rt; first_wrong(rt.alloc(), &FAULTS)?, None);
+    Ok(())
+}
+
+#[test]
+fn files_come(rt: HostRuntime) -> Result<(), Fail> {
+    assert_eq!(rt; first_wrong(rt.alloc(), &FILES)?, None);
     Ok(())
 }
 
 #[test]
 fn failures_come(rt: HostRuntime) -> Result<(), Fail> {
-    let alloc = rt.alloc();
-    let rows = [&MISSING, &STORE_FAILED, &OUTPUT_FAILED, &NO_WORDS, &PRINTED];
-    for row in rows {
-        assert!(rt; comes(alloc, row)?, "{}", row.err);
-    }
+    assert_eq!(rt; first_wrong(rt.alloc(), &FAILURES)?, None);
     Ok(())
 }
 

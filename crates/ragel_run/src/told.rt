@@ -1,9 +1,11 @@
 // What is told of a replay's end.
 ghost use Rattle.std.specs.Prelude.{◌≡◌, ◌++◌, IfOk, OnOk, codes, decimal};
-ghost use Rattle.ragel_run.specs.Replay.{Tells, line_of, status_of, told_at, words_of_fault, words_of_limit, first_word as first_of, second_word as second_of};
+ghost use Rattle.ragel_run.specs.Replay.{status_of};
+ghost use Rattle.ragel_run.specs.Told.{Tells, line_of, told, told_at, told_by, words_of_fault, words_of_limit, second_word as second_of};
 
 use crate::refusal::Refusal;
 use itoa::Buffer;
+use rl_includes::Stop;
 use rl_io::Sink;
 use rl_types::{FaultKind, LimitKind, Memory, Place, Status, Text};
 use std::alloc::{AllocError, Global};
@@ -15,27 +17,12 @@ pub fn status_for(end: &Result<(), Refusal>) -> Status
     match end {
         Ok(()) => Status::Done,
         Err(Refusal::Usage) => Status::Usage,
-        Err(Refusal::Fault(_)) => Status::Source,
-        Err(Refusal::Limit(_)) => Status::Limit,
+        Err(Refusal::Source(Stop::Fault(_, _))) => Status::Source,
+        Err(Refusal::Source(Stop::Limit(_, _))) => Status::Limit,
+        Err(Refusal::Source(Stop::Missing(_) | Stop::StoreFailed(_))) => Status::Outside,
         Err(Refusal::BadLine(_)) => Status::Script,
         Err(Refusal::Memory) => Status::Memory,
-        Err(
-            Refusal::NoSpec
-            | Refusal::NoScript
-            | Refusal::SpecFailed
-            | Refusal::ScriptFailed
-            | Refusal::OutputFailed,
-        ) => Status::Outside,
-    }
-}
-
-// The first word, or the empty one.
-fn first_word(words: &[Text]) -> &[u8]
-    ensures { result.now ≡ first_of words.now }
-{
-    match words {
-        [first, ..] => first.as_str().as_bytes(),
-        [] => b"",
+        Err(Refusal::NoScript | Refusal::ScriptFailed | Refusal::OutputFailed) => Status::Outside,
     }
 }
 
@@ -44,8 +31,8 @@ fn second_word(words: &[Text]) -> &[u8]
     ensures { result.now ≡ second_of words.now }
 {
     match words {
-        [_, rest @ ..] => first_word(rest),
-        [] => b"",
+        [_, second, ..] => second.as_str().as_bytes(),
+        _ => b"",
     }
 }
 
@@ -131,38 +118,33 @@ fn push_told(text: &mut Vec<u8>, name: &[u8], place: Place, words: &[u8]) -> Res
     text.extend_from_slice(b"\n")
 }
 
-// The line that an end is told by.
-fn push_line(
-    text: &mut Vec<u8>,
-    words: &[Text],
-    end: &Result<(), Refusal>,
-) -> Result<(), AllocError>
-    ensures { OnOk result (text.new.items ≡ text.old.items ++ line_of words.now end.now) }
+// The line that a refused source is told by.
+fn push_stop(text: &mut Vec<u8>, stop: &Stop) -> Result<(), AllocError>
+    ensures { OnOk result (text.new.items ≡ text.old.items ++ told_by stop.now) }
+{
+    match stop {
+        Stop::Fault(fault, file) => {
+            push_told(text, file.bytes(), fault.place, fault_words(fault.kind))
+        }
+        Stop::Limit(limit, file) => {
+            push_told(text, file.bytes(), limit.place, limit_words(limit.kind))
+        }
+        Stop::Missing(file) => push_both(text, file.bytes(), b": missing\n"),
+        Stop::StoreFailed(file) => push_both(text, file.bytes(), b": store failed\n"),
+    }
+}
+
+// The line that an end is told by, with the script's name.
+fn push_line(text: &mut Vec<u8>, script: &[u8], end: &Result<(), Refusal>) -> Result<(), AllocError>
+    ensures { OnOk result (text.new.items ≡ text.old.items ++ told script.now end.now) }
 {
     match end {
         Ok(()) => Ok(()),
         Err(Refusal::Usage) => text.extend_from_slice(b"usage\n"),
-        Err(Refusal::NoSpec) => push_both(text, first_word(words), b": missing\n"),
-        Err(Refusal::NoScript) => push_both(text, second_word(words), b": missing\n"),
-        Err(Refusal::SpecFailed) => push_both(text, first_word(words), b": store failed\n"),
-        Err(Refusal::ScriptFailed) => push_both(text, second_word(words), b": store failed\n"),
-        Err(Refusal::Fault(fault)) => {
-            push_told(
-                text,
-                first_word(words),
-                fault.place,
-                fault_words(fault.kind),
-            )
-        }
-        Err(Refusal::Limit(limit)) => {
-            push_told(
-                text,
-                first_word(words),
-                limit.place,
-                limit_words(limit.kind),
-            )
-        }
-        Err(Refusal::BadLine(line)) => push_bad_line(text, second_word(words), *line),
+        Err(Refusal::Source(stop)) => push_stop(text, stop),
+        Err(Refusal::NoScript) => push_both(text, script, b": missing\n"),
+        Err(Refusal::ScriptFailed) => push_both(text, script, b": store failed\n"),
+        Err(Refusal::BadLine(line)) => push_bad_line(text, script, *line),
         Err(Refusal::OutputFailed) => text.extend_from_slice(b"output failed\n"),
         Err(Refusal::Memory) => text.extend_from_slice(b"out of memory\n"),
     }
@@ -173,7 +155,7 @@ fn line_for(alloc: Global, words: &[Text], end: &Result<(), Refusal>) -> Result<
     ensures { IfOk result (λ v. v.items ≡ line_of words.now end.now) }
 {
     let mut text = Vec::new(alloc);
-    match push_line(&mut text, words, end) {
+    match push_line(&mut text, second_word(words), end) {
         Ok(()) => Ok(text),
         Err(_) => Err(Memory),
     }

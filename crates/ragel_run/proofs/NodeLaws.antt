@@ -1,0 +1,83 @@
+-- Of Specs that say the same, the same node is refused.
+use Rattle.std.proofs.Common.{◌≡◌, ◌∙◌, ℕ, ◌-◌, nat_lt, cond, List, [], ◌∷◌, map, length, slice_get, Option, Some, None, refl, sym, ap, subst}
+use Rattle.rl_types.specs.declared.numbers.Place.{Place}
+use Rattle.rl_automata.specs.Refused as cause
+use Rattle.rl_automata.specs.Refused.{Cause, IsRefusal, AreBuildable}
+use Rattle.rl_automata.proofs.RefusalLaws.{one_refusal, refused_or_built}
+use Rattle.rl_model.specs.declared.spec.Entry as rust_entry
+use Rattle.rl_model.specs.declared.spec.Spec.{Spec}
+use Rattle.rl_model.specs.Specification.{specification_of, roots_of}
+use Rattle.rl_model.specs.RefusedNode.{IsRefusedAt, IsBuildable, cause_place, place_at}
+use Rattle.rl_includes.specs.declared.unrolled.Stop.{Stop}
+use Rattle.rl_rewrite.specs.Entries.{Made, made_of}
+use Rattle.rl_resolve.specs.Descriptions.{Description, description}
+use Rattle.rl_resolve.specs.Refusals.{file_name}
+use Rattle.rl_resolve.proofs.ResolveLaws.{same_specification}
+use Rattle.ragel_run.specs.Sources.{IsToldAs}
+
+-- ---- what a description tells
+
+-- the place of a node among entries
+abbrev place_made : List Made → ℕ → Option Place
+place_made [] i = None
+place_made (m ∷ ms) i = cond (nat_lt i (length m.places)) (slice_get m.places i) (place_made ms (i - length m.places))
+
+-- the cause of a node of an expression, which stands at its first token
+abbrev IsOfNode : Cause → Type 0
+IsOfNode c = (e : rust_entry.Entry) (i : ℕ) → cause_place e i c ≡ slice_get e.places i
+
+places_are : (c : Cause) → IsOfNode c → (es : List rust_entry.Entry) (i : ℕ) → place_at es i c ≡ place_made (map made_of es) i
+places_are c h [] i = refl
+places_are c h (e ∷ es) i =
+    ap (λ o. cond (nat_lt i (length e.places)) o (place_at es (i - length e.places) c)) (h e i)
+    ∙ ap (λ o. cond (nat_lt i (length e.places)) (slice_get e.places i) o) (places_are c h es (i - length e.places))
+
+-- ---- what is told
+
+told_of_node : (c : Cause) (p : Place) (file : List ℕ) (s : Stop) → IsToldAs c p file s → IsOfNode c
+told_of_node cause.L6 p file s h = λ e i. refl
+told_of_node cause.L8 p file s h = λ e i. refl
+told_of_node cause.F15 p file s h = λ e i. refl
+told_of_node (cause.F12 j) p file s h = absurd h
+
+told_once : (c : Cause) (p : Place) (file : List ℕ) (s t : Stop) → IsToldAs c p file s → IsToldAs c p file t → s ≡ t
+told_once cause.L6 p file s t h k = h ∙ sym k
+told_once cause.L8 p file s t h k = h ∙ sym k
+told_once cause.F15 p file s t h k = h ∙ sym k
+told_once (cause.F12 j) p file s t h k = absurd h
+
+some_same : (p q : Place) → Some p ≡ Some q → p ≡ q
+some_same p q e = cc
+
+-- ---- two Specs
+
+module _ (a b : Spec) (same : description a ≡ description b) where
+  same_roots : roots_of (specification_of a) ≡ roots_of (specification_of b)
+  same_roots = ap roots_of (same_specification a b same)
+
+  -- a refusal in the one is one in the other
+  moved : (i : ℕ) (c : Cause) → IsRefusal b.alphabet (roots_of (specification_of b)) i c → IsRefusal a.alphabet (roots_of (specification_of a)) i c
+  moved i c h =
+      subst (λ x. IsRefusal x (roots_of (specification_of a)) i c) (sym (ap (λ (d : Description). d.alphabet) same))
+      (subst (λ rs. IsRefusal b.alphabet rs i c) (sym same_roots) h)
+
+  place_once : (c : Cause) → IsOfNode c → (i : ℕ) (p q : Place) → place_at a.entries i c ≡ Some p → place_at b.entries i c ≡ Some q → q ≡ p
+  place_once c h i p q e f =
+      some_same q p (sym f ∙ places_are c h b.entries i ∙ sym (ap (λ (d : Description). place_made d.entries i) same) ∙ sym (places_are c h a.entries i) ∙ e)
+
+  -- one stop is told
+  pub node_once : (c d : Cause) (p q : Place) (s t : Stop) → IsRefusedAt a c p → IsToldAs c p (file_name a.files p.file) s →
+      IsRefusedAt b d q → IsToldAs d q (file_name b.files q.file) t → s ≡ t
+  node_once c d p q s t (i, h, e) told (j, k, f) tells =
+      let once = one_refusal a.alphabet (roots_of (specification_of a)) i j c d h (moved j d k) in
+      let told_d = subst (λ x. IsToldAs x p (file_name a.files p.file) s) once.1 told in
+      let node = told_of_node d p (file_name a.files p.file) s told_d in
+      let here : place_at a.entries j d ≡ Some p = subst (λ n. place_at a.entries n d ≡ Some p) once.0 (subst (λ x. place_at a.entries i x ≡ Some p) once.1 e) in
+      let place = place_once d node j p q here f in
+      let files : b.files ≡ a.files = sym (ap (λ (x : Description). x.files) same) in
+      told_once d p (file_name a.files p.file) s t told_d
+      (subst (λ fs. IsToldAs d p (file_name fs p.file) t) files (subst (λ x. IsToldAs d x (file_name b.files x.file) t) place tells))
+
+  -- and none where the other is built
+  pub refused_not_built : (c : Cause) (p : Place) → IsRefusedAt b c p → IsBuildable a → ⊥
+  refused_not_built c p (i, h, e) built = refused_or_built a.alphabet (roots_of (specification_of a)) i c (moved i c h) built

@@ -1,0 +1,100 @@
+-- What is told of a replay's end, and when it is (this profile).
+use Rattle.std.specs.Prelude.{◌≡◌, ◌⊎◌, ℕ, List, [], ◌∷◌, ◌++◌, Option, Result, Ok, Err, codes, decimal}
+use Rattle.rl_types.specs.declared.faults.FaultKind.{FaultKind}
+use Rattle.rl_types.specs.declared.faults.FaultKind.TheVariants as f
+use Rattle.rl_types.specs.declared.faults.LimitKind.{LimitKind}
+use Rattle.rl_types.specs.declared.faults.LimitKind.TheVariants as l
+use Rattle.rl_types.specs.declared.numbers.Place.{Place}
+use Rattle.rl_types.specs.declared.status.Status.{Status}
+use Rattle.rl_types.specs.declared.status.Status.TheVariants as statuses
+use Rattle.rl_io.specs.Outside.{Rose, Appends, AppendsPrefix}
+use Rattle.rl_includes.specs.declared.unrolled.Stop.{Stop}
+use Rattle.rl_includes.specs.declared.unrolled.Stop.TheVariants as stop
+use Rattle.ragel_run.specs.Replay.{Outside, Ends, Due, HasNoFault, status_of}
+use Rattle.ragel_run.specs.declared.refusal.Refusal.{Refusal}
+use Rattle.ragel_run.specs.declared.refusal.Refusal.TheVariants as refusals
+
+-- the number of a fault, and what it is
+abbrev pub words_of_fault : FaultKind → List ℕ
+words_of_fault f.F1 = codes "F1 bad character"
+words_of_fault f.F2 = codes "F2 unclosed"
+words_of_fault f.F3 = codes "F3 syntax"
+words_of_fault f.F4 = codes "F4 no machine"
+words_of_fault f.F5 = codes "F5 unknown name"
+words_of_fault f.F6 = codes "F6 twice"
+words_of_fault f.F7 = codes "F7 number"
+words_of_fault f.F8 = codes "F8 key range"
+words_of_fault f.F9 = codes "F9 range ends"
+words_of_fault f.F10 = codes "F10 counts"
+words_of_fault f.F11 = codes "F11 scanner place"
+words_of_fault f.F12 = codes "F12 zero token"
+words_of_fault f.F13 = codes "F13 statement place"
+words_of_fault f.F14 = codes "F14 mark in scanner"
+words_of_fault f.F15 = codes "F15 priority cycle"
+words_of_fault f.F16 = codes "F16 no entry"
+words_of_fault f.F17 = codes "F17 include loop"
+words_of_fault f.F18 = codes "F18 no instance"
+words_of_fault f.F19 = codes "F19 marker"
+words_of_fault f.F20 = codes "F20 not yet"
+
+-- the number of a limit, and what it counts
+abbrev pub words_of_limit : LimitKind → List ℕ
+words_of_limit l.L1 = codes "L1 bytes"
+words_of_limit l.L2 = codes "L2 includes"
+words_of_limit l.L3 = codes "L3 parentheses"
+words_of_limit l.L4 = codes "L4 nodes"
+words_of_limit l.L5 = codes "L5 depth"
+words_of_limit l.L6 = codes "L6 configurations"
+words_of_limit l.L7 = codes "L7 conditions"
+words_of_limit l.L8 = codes "L8 cells"
+words_of_limit l.L9 = codes "L9 names"
+words_of_limit l.L10 = codes "L10 statements"
+words_of_limit l.L11 = codes "L11 states"
+words_of_limit l.L12 = codes "L12 input"
+
+-- what is wrong at a place in a file
+abbrev pub told_at : List ℕ → Place → List ℕ → List ℕ
+told_at file place words = file ++ codes ":" ++ decimal place.line ++ codes ":" ++ decimal place.col ++ codes ": " ++ words ++ codes "\n"
+
+-- the line that a refused source is told by
+abbrev pub told_by : Stop → List ℕ
+told_by (stop.Fault fault file) = told_at file fault.place (words_of_fault fault.kind)
+told_by (stop.Limit limit file) = told_at file limit.place (words_of_limit limit.kind)
+told_by (stop.Missing file) = file ++ codes ": missing\n"
+told_by (stop.StoreFailed file) = file ++ codes ": store failed\n"
+
+-- the line on the error output, by the script's name
+abbrev pub told : {T : Type 0} → List ℕ → Result T Refusal → List ℕ
+told script (Ok done) = []
+told script (Err refusals.Usage) = codes "usage\n"
+told script (Err (refusals.Source s)) = told_by s
+told script (Err refusals.NoScript) = script ++ codes ": missing\n"
+told script (Err refusals.ScriptFailed) = script ++ codes ": store failed\n"
+told script (Err (refusals.BadLine line)) = script ++ codes ":" ++ decimal line ++ codes ": bad line\n"
+told script (Err refusals.OutputFailed) = codes "output failed\n"
+told script (Err refusals.Memory) = codes "out of memory\n"
+
+-- the second word, or the empty one
+abbrev pub second_word : List (List ℕ) → List ℕ
+second_word [] = []
+second_word (word ∷ []) = []
+second_word (word ∷ other ∷ words) = other
+
+-- the line that a replay's end is told by, for these words
+abbrev pub line_of : {T : Type 0} → List (List ℕ) → Result T Refusal → List ℕ
+line_of words end = told (second_word words) end
+
+-- the error output gains the line; where it failed it gains a prefix, where memory was wanting nothing
+abbrev pub Tells : Option (List ℕ) → Option (List ℕ) → ℕ → ℕ → List ℕ → Type 0
+Tells old new before now line = Appends old new line ⊎ (Rose before now × AppendsPrefix old new line) ⊎ (new ≡ old)
+
+-- there is one way to end, with its status, and the error output gains its line
+abbrev pub EndsWith : Outside → List (List ℕ) → Option (List ℕ) → Option (List ℕ) → ℕ → ℕ → Status → Type 0
+EndsWith o words old new before now status =
+    (end : Result (Unit {0}) Refusal) × Ends o words end × (status ≡ status_of end) × Tells old new before now (line_of words end)
+
+-- a replay that meets no fault ends as it is to end, or for want of memory
+abbrev pub IsComplete : Outside → List (List ℕ) → Option (List ℕ) → Option (List ℕ) → ℕ → ℕ → Status → Type 0
+IsComplete o words old new before now status =
+    HasNoFault o → (end : Result (Unit {0}) Refusal) → Due o.held words end →
+    ((status ≡ status_of end) × Tells old new before now (line_of words end)) ⊎ (status ≡ statuses.Memory)
