@@ -7,3 +7,4 @@ pub mod NamesChecked
 pub mod LevelLaws
 pub mod RefusedLaws
 pub mod AddLaws
+pub mod GroupLaws

@@ -78,13 +78,13 @@ position_text name keys =
     ap (λ z. cond (ltb z (length keys)) (Some z) None) place
     ∙ ap (λ z. cond (ltb (position_or_len (bytes_eq name) (map (λ k. k.now) keys)) z) (Some (position_or_len (bytes_eq name) (map (λ k. k.now) keys))) None) (sym (length-map keys (λ (k : Text). k.now)))
 
--- ---- counts
+-- ---- what is told of texts
 
-pub count_more : (x : List ℕ) (key : Text) (v : ℕ) (es : List (Text × ℕ))
+pub told_more : {A : Type 0} (x : List ℕ) (key : Text) (v : A) (es : List (Text × A))
     → lookup (λ k. bytes_eq x k.now) (insert_entry text_alike es key v) ≡ cond (bytes_eq x key.now) (Some v) (lookup (λ k. bytes_eq x k.now) es)
-count_more x key v [] = refl
-count_more x key v (e ∷ es) =
-    let at = λ (l : List (Text × ℕ)). lookup (λ k. bytes_eq x k.now) l in
+told_more x key v [] = refl
+told_more {A} x key v (e ∷ es) =
+    let at = λ (l : List (Text × A)). lookup (λ k. bytes_eq x k.now) l in
     elim (cases_Bool (bytes_eq key.now e.0.now)) [
       | inl hit ↦
           let alike_key : key.now ≡ e.0.now = (bytes_eq-Decides key.now e.0.now).0 hit in
@@ -95,7 +95,7 @@ count_more x key v (e ∷ es) =
       | inr miss ↦
           let new : at (insert_entry text_alike (e ∷ es) key v) ≡ cond (bytes_eq x e.0.now) (Some e.1) (at (insert_entry text_alike es key v)) =
           ap (λ z. at (cond z ((e.0, v) ∷ es) (e ∷ insert_entry text_alike es key v))) miss in
-          new ∙ (ap (cond (bytes_eq x e.0.now) (Some e.1)) (count_more x key v es) ∙ swapped x key.now e.0.now (Some e.1) (Some v) (at es) miss)
+          new ∙ (ap (cond (bytes_eq x e.0.now) (Some e.1)) (told_more x key v es) ∙ swapped x key.now e.0.now (Some e.1) (Some v) (at es) miss)
     ]
   where
     twice_tested : {A : Type 0} (b : Bool) (p q r : A) → cond b p (cond b q r) ≡ cond b p r
@@ -112,13 +112,13 @@ count_more x key v (e ∷ es) =
           ap (λ z. cond z p (cond (bytes_eq x k) q r)) apart ∙ (ap (λ z. cond z q r) hit ∙ sym (ap (λ z. cond z q (cond (bytes_eq x e) p r)) hit))
     ]
 
-unwrapped : (b : Bool) (v : ℕ) (r : Option ℕ) → unwrap_or (cond b (Some v) r) 0 ≡ cond b v (unwrap_or r 0)
-unwrapped true v r = refl
-unwrapped false v r = refl
+unwrapped : {A : Type 0} (other : A) (b : Bool) (v : A) (r : Option A) → unwrap_or (cond b (Some v) r) other ≡ cond b v (unwrap_or r other)
+unwrapped other true v r = refl
+unwrapped other false v r = refl
 
-pub count_set : (x : List ℕ) (key : Text) (v : ℕ) (es : List (Text × ℕ))
-    → unwrap_or (lookup (λ k. bytes_eq x k.now) (insert_entry text_alike es key v)) 0 ≡ cond (bytes_eq x key.now) v (unwrap_or (lookup (λ k. bytes_eq x k.now) es) 0)
-count_set x key v es = ap (λ z. unwrap_or z 0) (count_more x key v es) ∙ unwrapped (bytes_eq x key.now) v (lookup (λ k. bytes_eq x k.now) es)
+pub told_set : {A : Type 0} (other : A) (x : List ℕ) (key : Text) (v : A) (es : List (Text × A))
+    → unwrap_or (lookup (λ k. bytes_eq x k.now) (insert_entry text_alike es key v)) other ≡ cond (bytes_eq x key.now) v (unwrap_or (lookup (λ k. bytes_eq x k.now) es) other)
+told_set other x key v es = ap (λ z. unwrap_or z other) (told_more x key v es) ∙ unwrapped other (bytes_eq x key.now) v (lookup (λ k. bytes_eq x k.now) es)
 
 -- a text that is not there
 pub text_new : (names : List (List ℕ)) (name : List ℕ) → list_any (bytes_eq name) names ≡ false → with_name names name ≡ names ++ name ∷ []

@@ -34,7 +34,7 @@ leaves_fault steps = first_of (λ s. statement_leaf_fault (alphabet_of s.machine
 
 -- ---- what is not built yet
 
--- code with control statements or values in it
+-- code with control statements or values of states in it
 abbrev pub code_unbuilt : Word → Option ReadFault
 code_unbuilt w = if steers w.text then Some (fault_at F20 w.place) else None
 

@@ -1,4 +1,5 @@
--- The words of an action's code that steer the run (the guide's chapters 3 and 6).
+-- The words of an action's code that steer the run or stand for its states (the guide's chapters 3 and 6). `fpc` and `fc`
+-- do neither: they are the position and the character, good in any code, and no part of which actions are called.
 use Rattle.std.specs.Prelude.{ℕ, Bool, true, false, not, ◌||◌, ◌&&◌, ◌==◌, if◌then◌else◌, List, [], ◌∷◌, take, codes}
 use Rattle.std.specs.List.{list_any, prefix_len}
 use Rattle.std.specs.Str.{bytes_eq}
@@ -8,8 +9,8 @@ use Rattle.rl_names.specs.declared.code.Region.TheVariants as r
 
 abbrev pub steering_words : List (List ℕ)
 steering_words =
-    codes "fgoto" ∷ codes "fcall" ∷ codes "fret" ∷ codes "fhold" ∷ codes "fexec" ∷ codes "fnext" ∷ codes "fbreak" ∷ codes "fpc" ∷ codes "fc"
-    ∷ codes "fentry" ∷ codes "fcurs" ∷ codes "ftargs" ∷ []
+    codes "fgoto" ∷ codes "fcall" ∷ codes "fret" ∷ codes "fhold" ∷ codes "fexec" ∷ codes "fnext" ∷ codes "fbreak" ∷ codes "fentry"
+    ∷ codes "fcurs" ∷ codes "ftargs" ∷ []
 
 abbrev pub is_steering : List ℕ → Bool
 is_steering word = list_any (bytes_eq word) steering_words

@@ -4,7 +4,7 @@ ghost use Rattle.rl_grammar.specs.declared.read_fault.ReadFault.TheVariants as r
 ghost use Rattle.rl_names.specs.Actions as actions;
 ghost use Rattle.rl_names.specs.Answers.{Explains};
 ghost use Rattle.rl_names.specs.Events.{seen as shown, union_events};
-ghost use Rattle.rl_names.specs.TableForms.{texts};
+ghost use Rattle.rl_names.specs.TableForms.{texts, pointed};
 
 use crate::events::{Event, events_of};
 use crate::frames::is_of;
@@ -160,13 +160,13 @@ fn behind(
 pub fn actions_of(
     alloc: Global,
     machine: &[u8],
-    steps: &[Step],
+    own: &[&Step],
 ) -> Result<List<ActionDef>, ReadFault>
-    ensures { MatchResult result (λ list. list ≡ actions.actions_of machine.now steps.now) (λ e. e ≡ reason.Memory) }
+    ensures { MatchResult result (λ list. list ≡ actions.actions_of machine.now (pointed own.now)) (λ e. e ≡ reason.Memory) }
 {
     let mut list = List::new(alloc);
-    for step in steps {
-        behind(alloc, machine, &mut list, step)?;
+    for step in own {
+        behind(alloc, machine, &mut list, *step)?;
     }
     Ok(list)
 }

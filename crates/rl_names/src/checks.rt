@@ -4,9 +4,9 @@ ghost use Rattle.rl_names.specs.Answers.{Tells, Shows, first_of};
 ghost use Rattle.rl_names.specs.Checks as checks;
 ghost use Rattle.rl_names.specs.Events.{seen as shown};
 
+use crate::alphabets::{alphabet_in, alphabets_of};
 use crate::code::steers;
 use crate::events::{Event, events_of};
-use crate::frames::alphabet_of;
 use crate::leaves::leaf_of;
 use crate::memory::{NameFault, fault_at};
 use rl_grammar::ReadFault;
@@ -71,8 +71,9 @@ fn statement_leaves(
 pub fn check_leaves(alloc: Global, steps: &[Step]) -> Result<(), NameFault>
     ensures { Tells (checks.leaves_fault steps.now) result }
 {
+    let alphabets = alphabets_of(alloc, steps)?;
     for step in steps {
-        let alphabet = alphabet_of(step.machine.bytes(), steps);
+        let alphabet = alphabet_in(&alphabets, step.machine.bytes());
         statement_leaves(alloc, alphabet, &step.statement)?;
     }
     Ok(())
@@ -127,8 +128,8 @@ fn statement_built(alloc: Global, statement: &Statement) -> Result<(), ReadFault
 }
 
 /// Whether all that a source says is built; the error is F20 at the first construct in text order that is not built yet
-/// (this profile): a `when`, a scanner, and an action's code with control statements or values in it. Memory may be wanted
-/// at any time.
+/// (this profile): a `when`, a scanner, and an action's code with control statements or values of states in it. Memory may
+/// be wanted at any time.
 pub fn check_built(alloc: Global, steps: &[Step]) -> Result<(), NameFault>
     ensures { Tells (checks.unbuilt_fault steps.now) result }
 {

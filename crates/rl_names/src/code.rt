@@ -29,7 +29,8 @@ fn in_word(byte: u8) -> bool
     matches!(byte, b'a'..=b'z' | b'A'..=b'Z' | b'_' | b'0'..=b'9')
 }
 
-/// Whether a word of code is a control statement or a value (the guide's chapters 3 and 6).
+/// Whether a word of code is a control statement or stands for a state (the guide's chapters 3 and 6). The values `fpc` and
+/// `fc` do neither.
 fn is_steering(word: &[u8]) -> bool
     ensures { result ≡ is_steering word.now }
 {
@@ -40,8 +41,6 @@ fn is_steering(word: &[u8]) -> bool
         || word == b"fexec".as_slice()
         || word == b"fnext".as_slice()
         || word == b"fbreak".as_slice()
-        || word == b"fpc".as_slice()
-        || word == b"fc".as_slice()
         || word == b"fentry".as_slice()
         || word == b"fcurs".as_slice()
         || word == b"ftargs".as_slice()
@@ -114,7 +113,7 @@ fn begins_steering(region: Region, fresh: bool, text: &[u8]) -> bool
     fresh && is_plain(region) && is_steering(first_word(text))
 }
 
-/// Whether a code has control statements or values in it, outside its strings, character literals and comments.
+/// Whether a code has control statements or values of states in it, outside its strings, character literals and comments.
 pub fn steers(code: &[u8]) -> bool
     ensures { result ≡ steers code.now }
 {

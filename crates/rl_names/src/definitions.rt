@@ -4,7 +4,7 @@ ghost use Rattle.rl_names.specs.Answers.{Gives, Explains, and_then, each};
 ghost use Rattle.rl_names.specs.Bases as bases;
 ghost use Rattle.rl_names.specs.Drafts as drafts;
 ghost use Rattle.rl_names.specs.Scopes.{kept};
-ghost use Rattle.rl_names.specs.TableForms.{texts};
+ghost use Rattle.rl_names.specs.TableForms.{texts, pointed};
 
 use crate::base::Base;
 use crate::expressions::union;
@@ -206,14 +206,14 @@ pub fn definitions_of(
     alloc: Global,
     base: &Base<'_>,
     machine: &[u8],
-    steps: &[Step],
+    own: &[&Step],
 ) -> Result<List<Definition>, ReadFault>
-    ensures { Gives (drafts.definitions_of (bases.kept_base base.now) machine.now steps.now) result }
+    ensures { Gives (drafts.definitions_of (bases.kept_base base.now) machine.now (pointed own.now)) result }
 {
     let mut names = IndexSet::new(alloc);
     let mut list = List::new(alloc);
-    for step in steps {
-        behind(alloc, base, machine, &mut names, &mut list, step)?;
+    for step in own {
+        behind(alloc, base, machine, &mut names, &mut list, *step)?;
     }
     Ok(list)
 }

@@ -2,6 +2,7 @@
 ghost use Rattle.std.specs.Prelude.{◌≡◌, MatchResult};
 ghost use Rattle.rl_grammar.specs.declared.read_fault.ReadFault.TheVariants as reason;
 ghost use Rattle.rl_names.specs.Frames as frames;
+ghost use Rattle.rl_names.specs.TableForms.{pointed};
 ghost use Rattle.rl_steps.specs.Steps.{is_included};
 
 use crate::memory::{name_of, push};
@@ -26,7 +27,8 @@ pub fn is_of(machine: &[u8], step: &Step) -> bool
     machine == step.machine.bytes()
 }
 
-fn alphabet_by(alphabet: Alphabet, statement: &Statement) -> Alphabet
+/// The alphabet behind a statement of its machine.
+pub fn alphabet_by(alphabet: Alphabet, statement: &Statement) -> Alphabet
     ensures { result ≡ frames.alphabet_by alphabet statement.now }
 {
     match statement {
@@ -55,12 +57,12 @@ fn alphabet_behind(machine: &[u8], alphabet: Alphabet, step: &Step) -> Alphabet
 }
 
 /// The alphabet of a machine: that of its last `alphtype`, or else `char`.
-pub fn alphabet_of(machine: &[u8], steps: &[Step]) -> Alphabet
-    ensures { result ≡ frames.alphabet_of machine.now steps.now }
+pub fn alphabet_of(machine: &[u8], own: &[&Step]) -> Alphabet
+    ensures { result ≡ frames.alphabet_of machine.now (pointed own.now) }
 {
     let mut alphabet = Alphabet::Char;
-    for step in steps {
-        alphabet = alphabet_behind(machine, alphabet, step);
+    for step in own {
+        alphabet = alphabet_behind(machine, alphabet, *step);
     }
     alphabet
 }
@@ -143,16 +145,16 @@ fn frame_behind(
 }
 
 /// What the printed code of a machine is given.
-pub fn frame_of(alloc: Global, machine: &[u8], steps: &[Step]) -> Result<Frame, ReadFault>
-    ensures { MatchResult result (λ frame. frame ≡ frames.frame_of machine.now steps.now) (λ e. e ≡ reason.Memory) }
+pub fn frame_of(alloc: Global, machine: &[u8], own: &[&Step]) -> Result<Frame, ReadFault>
+    ensures { MatchResult result (λ frame. frame ≡ frames.frame_of machine.now (pointed own.now)) (λ e. e ≡ reason.Memory) }
 {
     let mut frame = Frame {
         access: Code::new(Vec::new(alloc)),
         variables: List::new(alloc),
         marked: true,
     };
-    for step in steps {
-        frame_behind(alloc, machine, &mut frame, step)?;
+    for step in own {
+        frame_behind(alloc, machine, &mut frame, *step)?;
     }
     Ok(frame)
 }
@@ -211,12 +213,12 @@ fn write_behind(machine: &[u8], writes: &mut List<Write>, step: &Step) -> Result
 }
 
 /// The `write` statements of a machine that stand in the source itself.
-pub fn writes_of(alloc: Global, machine: &[u8], steps: &[Step]) -> Result<List<Write>, ReadFault>
-    ensures { MatchResult result (λ writes. writes ≡ frames.writes_of machine.now steps.now) (λ e. e ≡ reason.Memory) }
+pub fn writes_of(alloc: Global, machine: &[u8], own: &[&Step]) -> Result<List<Write>, ReadFault>
+    ensures { MatchResult result (λ writes. writes ≡ frames.writes_of machine.now (pointed own.now)) (λ e. e ≡ reason.Memory) }
 {
     let mut writes = List::new(alloc);
-    for step in steps {
-        write_behind(machine, &mut writes, step)?;
+    for step in own {
+        write_behind(machine, &mut writes, *step)?;
     }
     Ok(writes)
 }

@@ -3,6 +3,7 @@
 
 mod actions;
 mod alone;
+mod alphabets;
 mod base;
 mod checks;
 mod code;
@@ -10,6 +11,7 @@ mod definitions;
 mod events;
 mod expressions;
 mod frames;
+mod groups;
 mod leaves;
 mod levels;
 mod machines;
@@ -29,6 +31,3 @@ pub use checks::{check_built, check_leaves};
 pub use machines::{drafts, machine_names};
 pub use memory::NameFault;
 pub use names::check_names;
-
-#[cfg(test)]
-mod tests;

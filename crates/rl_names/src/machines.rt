@@ -5,12 +5,13 @@ ghost use Rattle.rl_names.specs.Answers.{Gives, each};
 ghost use Rattle.rl_names.specs.Drafts as drafts;
 ghost use Rattle.rl_names.specs.Frames as frames;
 ghost use Rattle.rl_names.specs.Priorities.{priorities_of};
-ghost use Rattle.rl_names.specs.TableForms.{texts};
+ghost use Rattle.rl_names.specs.TableForms.{texts, pointed, own_in};
 
 use crate::actions::{actions_of, names_of};
 use crate::base::Base;
 use crate::definitions::definitions_of;
 use crate::frames::{alphabet_of, frame_of, is_included, writes_of};
+use crate::groups::{Groups, groups_of, own_in};
 use crate::memory::{NameFault, name_of, push};
 use crate::priorities::priorities_of;
 use crate::texts::{Texts, put};
@@ -65,48 +66,48 @@ fn machines_of(alloc: Global, steps: &[Step]) -> Result<Texts<'_>, ReadFault>
 fn definitions_by(
     alloc: Global,
     machine: &[u8],
-    steps: &[Step],
+    own: &[&Step],
     actions: &Texts<'_>,
     priorities: &Texts<'_>,
 ) -> Result<List<Definition>, ReadFault>
-    requires { texts priorities.now ≡ priorities_of machine.now steps.now }
-    ensures { Gives (drafts.definitions_of (drafts.scope_of (texts actions.now) machine.now steps.now) machine.now steps.now) result }
+    requires { texts priorities.now ≡ priorities_of machine.now (pointed own.now) }
+    ensures { Gives (drafts.definitions_of (drafts.scope_of (texts actions.now) machine.now (pointed own.now)) machine.now (pointed own.now)) result }
 {
     let base = Base {
-        alphabet: alphabet_of(machine, steps),
+        alphabet: alphabet_of(machine, own),
         actions,
         priorities,
     };
-    definitions_of(alloc, &base, machine, steps)
+    definitions_of(alloc, &base, machine, own)
 }
 
 fn definitions_with(
     alloc: Global,
     machine: &[u8],
-    steps: &[Step],
+    own: &[&Step],
     actions: &[ActionDef],
 ) -> Result<List<Definition>, ReadFault>
-    ensures { Gives (drafts.definitions_with steps.now machine.now actions.now) result }
+    ensures { Gives (drafts.definitions_with (pointed own.now) machine.now actions.now) result }
 {
     let names = names_of(alloc, actions)?;
-    let priorities = priorities_of(alloc, machine, steps)?;
-    definitions_by(alloc, machine, steps, &names, &priorities)
+    let priorities = priorities_of(alloc, machine, own)?;
+    definitions_by(alloc, machine, own, &names, &priorities)
 }
 
 fn draft_with(
     alloc: Global,
     machine: &[u8],
-    steps: &[Step],
+    own: &[&Step],
     actions: List<ActionDef>,
     definitions: List<Definition>,
 ) -> Result<Draft, ReadFault>
-    ensures { MatchResult result (λ draft. draft ≡ drafts.draft_with steps.now machine.now actions definitions) (λ e. e ≡ reason.Memory) }
+    ensures { MatchResult result (λ draft. draft ≡ drafts.draft_with (pointed own.now) machine.now actions definitions) (λ e. e ≡ reason.Memory) }
 {
-    let frame = frame_of(alloc, machine, steps)?;
-    let writes = writes_of(alloc, machine, steps)?;
+    let frame = frame_of(alloc, machine, own)?;
+    let writes = writes_of(alloc, machine, own)?;
     Ok(Draft {
         machine: name_of(alloc, machine)?,
-        alphabet: alphabet_of(machine, steps),
+        alphabet: alphabet_of(machine, own),
         definitions,
         actions,
         frame,
@@ -114,18 +115,19 @@ fn draft_with(
     })
 }
 
-fn draft_of(alloc: Global, steps: &[Step], machine: &[u8]) -> Result<Draft, ReadFault>
-    ensures { Gives (drafts.draft_of steps.now machine.now) result }
+fn draft_of(alloc: Global, own: &[&Step], machine: &[u8]) -> Result<Draft, ReadFault>
+    ensures { Gives (drafts.draft_of (pointed own.now) machine.now) result }
 {
-    let actions = actions_of(alloc, machine, steps)?;
-    let definitions = definitions_with(alloc, machine, steps, actions.as_slice())?;
-    draft_with(alloc, machine, steps, actions, definitions)
+    let actions = actions_of(alloc, machine, own)?;
+    let definitions = definitions_with(alloc, machine, own, actions.as_slice())?;
+    draft_with(alloc, machine, own, actions, definitions)
 }
 
-fn draft_named(alloc: Global, steps: &[Step], machine: &Name) -> Result<Draft, ReadFault>
-    ensures { Gives (drafts.draft_of steps.now machine.now) result }
+fn draft_named(alloc: Global, groups: &Groups<'_>, machine: &Name) -> Result<Draft, ReadFault>
+    ensures { Gives (drafts.draft_of (pointed (own_in machine.now groups.now)) machine.now) result }
 {
-    draft_of(alloc, steps, machine.bytes())
+    let name = machine.bytes();
+    draft_of(alloc, own_in(groups, name), name)
 }
 
 /// Names that own their bytes.
@@ -140,12 +142,16 @@ fn owned(alloc: Global, all: &[&[u8]]) -> Result<List<Name>, ReadFault>
     Ok(names)
 }
 
-fn drafts_of(alloc: Global, steps: &[Step], machines: &[Name]) -> Result<List<Draft>, ReadFault>
-    ensures { Gives (each (drafts.draft_of steps.now) machines.now) result }
+fn drafts_of(
+    alloc: Global,
+    groups: &Groups<'_>,
+    machines: &[Name],
+) -> Result<List<Draft>, ReadFault>
+    ensures { Gives (each (λ m. drafts.draft_of (pointed (own_in m groups.now)) m) machines.now) result }
 {
     let mut found = List::new(alloc);
     for machine in machines {
-        let draft = draft_named(alloc, steps, machine)?;
+        let draft = draft_named(alloc, groups, machine)?;
         push(&mut found, draft)?;
     }
     Ok(found)
@@ -171,5 +177,6 @@ pub fn drafts(alloc: Global, steps: &[Step]) -> Result<List<Draft>, NameFault>
     ensures { Gives (drafts.drafts_of steps.now) result }
 {
     let names = machine_names(alloc, steps)?;
-    drafts_of(alloc, steps, names.as_slice())
+    let groups = groups_of(alloc, steps)?;
+    drafts_of(alloc, &groups, names.as_slice())
 }

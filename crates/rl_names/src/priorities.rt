@@ -4,7 +4,7 @@ ghost use Rattle.rl_grammar.specs.declared.read_fault.ReadFault.TheVariants as r
 ghost use Rattle.rl_names.specs.Events.{seen as shown, union_events};
 ghost use Rattle.rl_names.specs.Frames.{with_name};
 ghost use Rattle.rl_names.specs.Priorities as priorities;
-ghost use Rattle.rl_names.specs.TableForms.{texts};
+ghost use Rattle.rl_names.specs.TableForms.{texts, pointed};
 
 use crate::events::{Event, events_of};
 use crate::frames::is_of;
@@ -95,13 +95,13 @@ fn behind<'a>(
 pub fn priorities_of<'a>(
     alloc: Global,
     machine: &[u8],
-    steps: &'a [Step],
+    own: &[&'a Step],
 ) -> Result<Texts<'a>, ReadFault>
-    ensures { MatchResult result (λ names. texts names ≡ priorities.priorities_of machine.now steps.now) (λ e. e ≡ reason.Memory) }
+    ensures { MatchResult result (λ names. texts names ≡ priorities.priorities_of machine.now (pointed own.now)) (λ e. e ≡ reason.Memory) }
 {
     let mut names = IndexSet::new(alloc);
-    for step in steps {
-        behind(alloc, machine, &mut names, step)?;
+    for step in own {
+        behind(alloc, machine, &mut names, *step)?;
     }
     Ok(names)
 }

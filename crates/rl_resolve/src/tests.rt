@@ -46,7 +46,7 @@ fn is_fault(
 
 #[test]
 fn machines_in_order(rt: HostRuntime) {
-    let text = "%%{ machine m; main := 'a'; machine n; x = 'b'; y := x; z := x; machine o; }%%";
+    let text = "%%{ machine m; main := any; machine n; x = 'b'; y := x; z := x; machine o; }%%";
     assert!(rt; has_entries(&resolved(rt.alloc(), text, Runs::First), &[1, 2, 0]));
     assert!(rt; has_entries(&resolved(rt.alloc(), text, Runs::Named("n")), &[1, 2, 0]));
 }
