@@ -1,3 +1,9 @@
-pub mod Events
-pub mod Lines
-pub mod Session
+pub mod BooleanLaws
+pub mod PartLaws
+pub mod NumberLaws
+pub mod PickLaws
+pub mod EventLaws
+pub mod ReadingLaws
+pub mod NameLaws
+pub mod SessionLaws
+pub mod CourseLaws

@@ -1,21 +1,14 @@
--- The reading of a script of one session, line by line.
-use Rattle.std.specs.Prelude.{◌≡◌, ℕ, List, ◌++◌, Option, Some, None, option_and_then, Result}
+-- The reading of a script, line by line.
+use Rattle.std.specs.Prelude.{ℕ, List, ◌++◌, Result, if◌then◌else◌}
 use Rattle.std.specs.Result.{result_map_both}
-use Rattle.rl_replay.specs.declared.script.Event.{Event}
-use Rattle.rl_replay.specs.declared.script.Event.TheVariants.{Piece, End}
 use Rattle.rl_replay.specs.declared.script.Line.{Line}
 use Rattle.rl_replay.specs.declared.script.ScriptFault.{ScriptFault}
-use Rattle.rl_replay.specs.Sessions.{fed}
-use Rattle.rl_script.specs.declared.deed.Deed.{Deed}
-use Rattle.rl_script.specs.declared.deed.Deed.TheVariants.{Feeds, Ends, Other}
-use Rattle.rl_script.specs.OneSession.{going, behind}
+use Rattle.rl_replay.specs.Script.{says_nothing, or_bad, event_of}
 
--- what a line does in a session that is open, and the bytes behind those that were there
-abbrev pub Does : List ℕ → Option Event → List ℕ → List ℕ → Deed → Type 0
-Does s event old new Feeds = (bytes : List ℕ) × (event ≡ Some (Piece s bytes)) × (new ≡ old ++ bytes)
-Does s event old new Ends = (event ≡ Some (End s)) × (new ≡ old)
-Does s event old new Other = option_and_then (behind (going s)) event ≡ None
+-- lines behind others
+abbrev pub behind : List Line → Result (List Line) ScriptFault → Result (List Line) ScriptFault
+behind old rest = result_map_both (λ lines. old ++ lines) (λ fault. fault) rest
 
--- the bytes of lines, behind others
-abbrev pub fed_behind : List ℕ → Result (List Line) ScriptFault → Result (List ℕ) ScriptFault
-fed_behind bytes lines = result_map_both (λ ls. bytes ++ fed ls) (λ fault. fault) lines
+-- a line in front of those behind it
+abbrev pub in_front : ℕ → List ℕ → Result (List Line) ScriptFault → Result (List Line) ScriptFault
+in_front n line rest = if says_nothing line then rest else or_bad n (event_of line) rest

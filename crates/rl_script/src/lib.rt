@@ -1,13 +1,18 @@
-//! The reading of scripts.
+//! The reading of scripts, and whether tables admit them.
 #![tactic(auto)]
 
-mod deed;
-mod one_session;
+mod admission;
+mod course;
+mod events;
+mod names;
+mod numbers;
+mod parts;
+mod picks;
 mod quoted;
-mod texts;
-mod words;
+mod reading;
 
-pub use one_session::{OneSession, read_one_session};
+pub use admission::admit;
+pub use reading::read_script;
 
 #[cfg(test)]
 mod tests;

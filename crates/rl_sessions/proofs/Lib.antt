@@ -1,0 +1,13 @@
+pub mod Broken
+pub mod Calls
+pub mod Closed
+pub mod Finds
+pub mod Joined
+pub mod Laws
+pub mod Loops
+pub mod Ones
+pub mod Parts
+pub mod Rolls
+pub mod Shorts
+pub mod Stands
+pub mod Unbroken

@@ -1,0 +1,9 @@
+pub mod Joins
+pub mod OneSession
+pub mod Pieces
+pub mod Roll
+pub mod Runs
+pub mod SessionsInside
+pub mod SessionsValue
+pub mod Short
+pub mod Views

@@ -1,0 +1,14 @@
+//! Many sessions over one set of tables, each by itself, whose inputs come in pieces.
+#![tactic(auto)]
+
+mod fault;
+mod one;
+mod pieces;
+mod places;
+mod roll;
+mod sessions;
+mod windows;
+
+pub use fault::SessionFault;
+pub use one::SessionView;
+pub use sessions::Sessions;

@@ -1,0 +1,2 @@
+pub mod WindowInside
+pub mod WindowValue
