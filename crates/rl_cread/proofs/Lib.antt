@@ -1,0 +1,16 @@
+pub mod Between
+pub mod Marking
+pub mod Lacking
+pub mod Pieces
+pub mod EntryLaws
+pub mod EntryFound
+pub mod Slots
+pub mod Zero
+pub mod SectionLaws
+pub mod BracketLaws
+pub mod ReadingLaws
+pub mod Rests
+pub mod ValueLaws
+pub mod Injective
+pub mod Outcomes
+pub mod OnlyLaws

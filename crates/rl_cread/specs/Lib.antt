@@ -1,0 +1,9 @@
+pub mod Contents
+pub mod Sections
+pub mod Found
+pub mod Elements
+pub mod Lines
+pub mod Gathering
+pub mod Reading
+pub mod Values
+pub mod Outcome

@@ -1,0 +1,22 @@
+//! The reader of a printed data section.
+#![tactic(auto)]
+
+mod elements;
+mod entry;
+mod fault;
+mod fronts;
+mod gathering;
+mod lines;
+mod names;
+mod numbers;
+mod raw;
+mod read;
+mod said;
+mod section;
+#[cfg(test)]
+mod tests;
+mod texts;
+mod values;
+
+pub use fault::TableFault;
+pub use read::read_tables;
