@@ -267,7 +267,7 @@ module _ (alphabet : Alphabet) where
   ranges_two : (xs ys : List (List Range)) (m n : ℕ) → range_count xs ≡ m → range_count ys ≡ n → range_count (xs ++ ys) ≡ m + n
   ranges_two xs ys m n a b = let e : range_count (xs ++ ys) ≡ range_count xs + range_count ys = sum_by-append (λ (s : List Range). length s) xs ys in omega arith
 
-  ranges_are : (t : Node) → range_count (sets_in t) ≡ ranges_in t
+  pub ranges_are : (t : Node) → range_count (sets_in t) ≡ ranges_in t
   ranges_are (N.Set ranges) = let e : range_count (ranges ∷ []) ≡ length ranges + range_count [] = sum_by-cons (λ (s : List Range). length s) ranges [] in let z : range_count [] ≡ 0 = refl in omega arith
   ranges_are N.Null = refl
   ranges_are N.Nothing = refl

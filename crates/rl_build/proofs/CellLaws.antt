@@ -326,3 +326,6 @@ none_most classes conditions some many = div-eq_of_lt (more classes (2 ^ conditi
     more : (c p : ℕ) → 0 < c → 2 ^ 23 ≤ p → 4194304 < c * p
     more zero p some big = absurd (omega arith)
     more (suc c) p some big = rw suc-mul (omega arith)
+
+pub few_swapped : (m n x : ℕ) → x ≤ m + n → x ≤ n + m
+few_swapped m n x h = omega arith

@@ -4,11 +4,11 @@ ghost use Rattle.rl_types.specs.declared.alphabet.Alphabet.{Alphabet};
 ghost use Rattle.rl_types.specs.KeyRange.{Range};
 ghost use Rattle.rl_sets.specs.Sets.{In};
 ghost use Rattle.rl_classes.specs.Sets.{range_count};
-ghost use Rattle.rl_build.specs.Adds.{AddsAll, insert_all, AreCountedAgain};
+ghost use Rattle.rl_build.specs.Adds.{AddsAll, insert_all, AreCountedAgain, IsCopy};
 ghost use Rattle.rl_build.specs.Cells.{AreCells, AreCounted, most_of};
 
 use crate::cells::{Cells, KeySet};
-use crate::leaves::{one_set, push, put_in_place};
+use crate::leaves::{copied, copied_numbers, one_set, push, put_in_place};
 use rl_classes::Segments;
 use rl_types::{Alphabet, KeyRange, Memory};
 use std::alloc::Global;
@@ -130,7 +130,8 @@ pub fn set_cells(alloc: Global, alphabet: Alphabet, set: &[KeyRange]) -> Result<
 // again.
 fn extended(alloc: Global, alphabet: Alphabet, cells: Cells, more: Cells) -> Result<Cells, Memory>
     requires { range_count cells.sets.items + range_count more.sets.items ≤ 1073741823 }
-    ensures { IfOk result (λ c. (xs ys : List (List Range)) (cs ds : List ℕ) → AreCells alphabet xs cs cells → AreCells alphabet ys ds more → AreCells alphabet (xs ++ ys) (cs ++ ds) c) }
+    ensures cells { IfOk result (λ c. (xs ys : List (List Range)) (cs ds : List ℕ) → AreCells alphabet xs cs cells → AreCells alphabet ys ds more → AreCells alphabet (xs ++ ys) (cs ++ ds) c) }
+    ensures few { IfOk result (λ c. range_count c.sets.items ≤ range_count cells.sets.items + range_count more.sets.items) }
 {
     let Cells {
         mut sets,
@@ -150,7 +151,8 @@ fn extended(alloc: Global, alphabet: Alphabet, cells: Cells, more: Cells) -> Res
 // The cells of an expression of two; the fewer sets are added to the more.
 pub fn joined(alloc: Global, alphabet: Alphabet, a: Cells, b: Cells) -> Result<Cells, Memory>
     requires { range_count a.sets.items + range_count b.sets.items ≤ 1073741823 }
-    ensures { IfOk result (λ c. (xs ys : List (List Range)) (cs ds : List ℕ) → AreCells alphabet xs cs a → AreCells alphabet ys ds b → AreCells alphabet (xs ++ ys) (cs ++ ds) c) }
+    ensures cells { IfOk result (λ c. (xs ys : List (List Range)) (cs ds : List ℕ) → AreCells alphabet xs cs a → AreCells alphabet ys ds b → AreCells alphabet (xs ++ ys) (cs ++ ds) c) }
+    ensures few { IfOk result (λ c. range_count c.sets.items ≤ range_count a.sets.items + range_count b.sets.items) }
 {
     if a.sets.len() < b.sets.len() {
         return extended(alloc, alphabet, b, a);
@@ -171,6 +173,31 @@ pub fn with_condition(cells: Cells, condition: u8) -> Result<Cells, Memory>
     Ok(Cells {
         sets,
         classes,
+        conditions,
+    })
+}
+
+// The same sets.
+fn copied_sets(alloc: Global, sets: &[KeySet]) -> Result<Vec<KeySet>, Memory>
+    ensures { IfOk result (λ v. v.items ≡ sets.now) }
+{
+    let mut copies: Vec<KeySet> = Vec::new(alloc);
+    for set in sets {
+        let copy = copied(alloc, set.as_slice())?;
+        push(&mut copies, copy)?;
+    }
+    Ok(copies)
+}
+
+// The same cells.
+pub fn copied_cells(alloc: Global, cells: &Cells) -> Result<Cells, Memory>
+    ensures { IfOk result (IsCopy cells.now) }
+{
+    let sets = copied_sets(alloc, &cells.sets)?;
+    let conditions = copied_numbers(alloc, &cells.conditions)?;
+    Ok(Cells {
+        sets,
+        classes: cells.classes,
         conditions,
     })
 }

@@ -22,7 +22,7 @@ pub fn put_in_place(numbers: &mut Vec<u8>, x: u8) -> Result<(), Memory>
 }
 
 // The same ranges.
-fn copied(alloc: Global, set: &[KeyRange]) -> Result<KeySet, Memory>
+pub fn copied(alloc: Global, set: &[KeyRange]) -> Result<KeySet, Memory>
     ensures { IfOk result (λ s. s ≡ set.now) }
 {
     rl_types::List::from_slice(alloc, set).map_err(|_| Memory)
@@ -36,4 +36,11 @@ pub fn one_set(alloc: Global, set: &[KeyRange]) -> Result<Vec<KeySet>, Memory>
     let mut sets: Vec<KeySet> = Vec::new(alloc);
     push(&mut sets, ranges)?;
     Ok(sets)
+}
+
+// The same numbers.
+pub fn copied_numbers(alloc: Global, numbers: &[u8]) -> Result<Vec<u8>, Memory>
+    ensures { IfOk result (λ v. v.items ≡ numbers.now) }
+{
+    Vec::from_slice(alloc, numbers).map_err(|_| Memory)
 }

@@ -3,6 +3,7 @@
 
 mod built;
 mod cells;
+mod chain;
 mod counting;
 mod entries;
 mod fault;

@@ -8,11 +8,13 @@ ghost use Rattle.rl_automata.specs.Refused.{sets_in, conditions_in};
 ghost use Rattle.rl_fsm.specs.Builds.{StandsFor};
 ghost use Rattle.rl_embed.specs.Embeds.{embed_node};
 ghost use Rattle.rl_build.specs.Cells.{AreCells, most_of};
+ghost use Rattle.rl_build.specs.Chains.{IsGathered};
 ghost use Rattle.rl_build.specs.Nodes.{pair_node, IsMadeFor, IsPlain};
 ghost use Rattle.rl_build.specs.Trees.{IsBuilt, IsAnswer, AreOperandsBuilt, IsFit, AreFit, wrong_number, IsSmall, IsSmallAnswer};
 
 use crate::built::{Built, Refused};
 use crate::cells::Cells;
+use crate::chain::{alone, behind, finished, has_no_priors, is_many, sides};
 use crate::counting::{joined, most, no_cells, set_cells, with_condition};
 use crate::node::{labelled, limited, paired, repeated};
 use crate::pairing::Pairing;
@@ -85,7 +87,7 @@ fn nothing(alloc: Global, alphabet: Alphabet) -> Result<Built, Refused>
 }
 
 // Two operands that are built, and their operator.
-fn both(
+pub fn both(
     alloc: Global,
     alphabet: Alphabet,
     how: Pairing,
@@ -223,6 +225,35 @@ fn operator(
     }
 }
 
+// The operands of a union, or the first of its nodes that is refused.
+#[cycle(expression)]
+fn operands_of_both(
+    alloc: Global,
+    alphabet: Alphabet,
+    a: &Tree,
+    b: &Tree,
+) -> Result<Vec<Built>, Refused>
+    requires { AreFit (node_of a.now) (node_of b.now) }
+    ensures { IsGathered alphabet (N.Union (node_of a.now) (node_of b.now)) result }
+{
+    match operands(alloc, alphabet, a) {
+        Ok(before) => behind(alloc, alphabet, a, before, expression(alloc, alphabet, b)),
+        Err(refused) => Err(refused),
+    }
+}
+
+// The operands of an expression, or the first of its nodes that is refused.
+#[cycle(expression)]
+fn operands(alloc: Global, alphabet: Alphabet, t: &Tree) -> Result<Vec<Built>, Refused>
+    requires { IsFit (node_of t.now) }
+    ensures { IsGathered alphabet (node_of t.now) result }
+{
+    match sides(t) {
+        Some((a, b)) => operands_of_both(alloc, alphabet, a, b),
+        None => alone(alloc, expression(alloc, alphabet, t)),
+    }
+}
+
 /// The machine of an expression, or the first of its nodes that is refused.
 #[cycle(expression)]
 pub fn expression(alloc: Global, alphabet: Alphabet, t: &Tree) -> Result<Built, Refused>
@@ -234,7 +265,13 @@ pub fn expression(alloc: Global, alphabet: Alphabet, t: &Tree) -> Result<Built, 
         Tree::Set(set) => character(alloc, alphabet, set.as_slice()),
         Tree::Null => null(alloc, alphabet),
         Tree::Nothing => nothing(alloc, alphabet),
-        Tree::Union(a, b) => operator(alloc, alphabet, Pairing::Union, a, b),
+        Tree::Union(a, b) => {
+            if is_many(a) && has_no_priors(t) {
+                finished(alloc, alphabet, t, operands_of_both(alloc, alphabet, a, b))
+            } else {
+                operator(alloc, alphabet, Pairing::Union, a, b)
+            }
+        }
         Tree::And(a, b) => operator(alloc, alphabet, Pairing::And, a, b),
         Tree::Minus(a, b) => operator(alloc, alphabet, Pairing::Minus, a, b),
         Tree::Cat(a, b) => operator(alloc, alphabet, Pairing::Cat, a, b),

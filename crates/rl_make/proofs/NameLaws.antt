@@ -14,7 +14,8 @@ use Rattle.rl_replay.specs.Host.{host}
 use Rattle.rl_replay.specs.Lines.{session_run, run_lines, left_line}
 use Rattle.rl_replay.specs.Written.{texts, input_of, entry_of, session_lines, left_part, parts_from, added, left, written, whole_input}
 use Rattle.rl_replay.proofs.Whole.{one_run}
-use Rattle.rl_make.specs.Writes.{names_in, entry_names, WritesAs}
+use Rattle.rl_make.specs.Writes.{entry_names, WritesAs}
+use Rattle.rl_script.specs.TableNames.{names_in}
 
 -- a session that is opened at the same entry, has one piece and is ended writes the same, whatever the names are
 pub one_session_alike : {S : Type 0} (names other : Names) (m : Machine S) (settings : Settings) (s : List ℕ) (entry : Option (List ℕ)) (bytes : List ℕ) →

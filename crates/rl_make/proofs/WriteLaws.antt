@@ -18,7 +18,8 @@ use Rattle.rl_min.specs.Canonical.{IsMachineOf}
 use Rattle.rl_layout.specs.Fits.{Fits}
 use Rattle.rl_layout.specs.Layout.{arrays_of}
 use Rattle.rl_layout.specs.Shown.{number_of, Shows}
-use Rattle.rl_make.specs.Writes.{names_in, entry_names, WritesAs, IsBuiltOf}
+use Rattle.rl_make.specs.Writes.{entry_names, WritesAs, IsBuiltOf}
+use Rattle.rl_script.specs.TableNames.{names_in}
 use Rattle.rl_make.proofs.FitLaws.{Named, Counted, tree_twin, fits, some_machine}
 
 pub built_fits : (spec : Spec) (entries : List EntryFsm) (m : Minimal) → IsWellFormed spec → IsBuiltOf spec entries → IsMachineOf entries m → IsMinimal m → Fits spec m

@@ -1,5 +1,5 @@
 -- What the tables of a Spec write.
-use Rattle.std.specs.Prelude.{◌≡◌, ℕ, List, drop, map}
+use Rattle.std.specs.Prelude.{◌≡◌, ℕ, List, map}
 use Rattle.rl_run.specs.declared.sessions.Settings.{Settings}
 use Rattle.rl_arrays.specs.declared.arrays.Arrays.{Arrays}
 use Rattle.rl_arrays.specs.TableMachine.{machine}
@@ -11,12 +11,8 @@ use Rattle.rl_fsm.specs.declared.root.EntryFsm.{EntryFsm}
 use Rattle.rl_build.specs.Entries.{AreMachinesOf}
 use Rattle.rl_build.specs.Roots.{IsTwinOf}
 use Rattle.rl_replay.specs.declared.script.Line.{Line}
-use Rattle.rl_replay.specs.Sessions.{Names}
 use Rattle.rl_replay.specs.Written.{written}
-
--- the names that arrays have, each kind behind its empty one
-abbrev pub names_in : Arrays → Names
-names_in a = record { entries = drop 1 a.entry_names; actions = drop 1 a.action_names; conditions = drop 1 a.cond_names }
+use Rattle.rl_script.specs.TableNames.{names_in}
 
 -- the names of a Spec's entries, in text order
 abbrev pub entry_names : Spec → List (List ℕ)

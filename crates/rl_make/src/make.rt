@@ -11,7 +11,8 @@ ghost use Rattle.rl_model.specs.Specification.{specification_of};
 ghost use Rattle.rl_model.specs.Trees.{HasHonestTests};
 ghost use Rattle.rl_model.specs.WellFormed.{IsWellFormed};
 ghost use Rattle.rl_build.specs.Entries.{AllPlain, TellsRefusal};
-ghost use Rattle.rl_make.specs.Writes.{IsBuiltOf, WritesAs, entry_names, names_in};
+ghost use Rattle.rl_make.specs.Writes.{IsBuiltOf, WritesAs, entry_names};
+ghost use Rattle.rl_script.specs.TableNames.{names_in};
 
 use rl_build::{BuildFault, BuildRefusal, build};
 use rl_fsm::RootFsm;

@@ -1,4 +1,5 @@
 use Rattle.rl_automata.specs.Nodes.{node_of}
+use Rattle.rl_build.specs.declared.pairing.Pairing.TheVariants as P
 use Rattle.rl_build.proofs.AnswerLaws.{left_up, small_answer, small_pair}
 use Rattle.rl_build.proofs.walk.+expression.Goals as goal
 
@@ -31,3 +32,6 @@ expression-returns-in-Mark-clause-small t c = small_answer c.args.alphabet (node
 
 pub expression-returns-in-When-clause-small : goal.expression-returns-in-When-clause-small
 expression-returns-in-When-clause-small t c = small_answer c.args.alphabet (node_of c.args.t.now) _ c.requires (rw (c.in-When.is, ← c.deref-in-When.ensures) (c.guarded.ensures c.args.alphabet _ c.expression-in-When.ensures.answer))
+
+pub operands_of_both-returns-in-Err : goal.operands_of_both-returns-in-Err
+operands_of_both-returns-in-Err t c = left_up c.args.alphabet P.Union (node_of c.args.a.now) (node_of c.args.b.now) c.in-Err.refused c.in-Err.ensures

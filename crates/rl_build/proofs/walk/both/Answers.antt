@@ -9,5 +9,5 @@ returns-in-Ok c = λ s t x y.
     let alphabet = c.args.alphabet in
     let u = pair_node c.args.how s t in
     c.answer.ensures alphabet u (pair_ready alphabet c.args.how s t c.args.left c.args.right x y)
-    (pair_cells alphabet c.args.how s t c.in-Ok.cells (c.in-Ok.ensures (sets_in s) (sets_in t) (conditions_in s) (conditions_in t) x.cells y.cells))
+    (pair_cells alphabet c.args.how s t c.in-Ok.cells (c.in-Ok.ensures.cells (sets_in s) (sets_in t) (conditions_in s) (conditions_in t) x.cells y.cells))
     (subst (λ n. IsMadeFor u n c.paired-made.result) c.most.ensures (c.paired-made.ensures s t (operand_of alphabet s c.args.left x) (operand_of alphabet t c.args.right y)))

@@ -1,0 +1,4 @@
+pub mod Calm
+pub mod Joins
+pub mod Regrouping
+pub mod Growing
