@@ -1,0 +1,13 @@
+pub mod Plainness
+pub mod Accepting
+pub mod Matching
+pub mod Conditions
+pub mod QuietTurns
+pub mod QuietRuns
+pub mod TreeWords
+pub mod BuiltWords
+pub mod Unasked
+pub mod UnaskedWords
+pub mod ScannerWords
+pub mod SmallWords
+pub mod Replays

@@ -1,0 +1,4 @@
+pub mod Verdicts
+pub mod Scanners
+pub mod Rows
+pub mod Replays

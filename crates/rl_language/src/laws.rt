@@ -1,0 +1,80 @@
+// Laws over the definitions.
+ghost use Rattle.std.specs.Prelude.{◌≡◌, ℕ, ◌≤◌, ◌<◌, ◌^◌, false, List, [], ◌∷◌, ◌++◌, None, Option, ◌↔◌, length};
+ghost use Rattle.rl_types.specs.declared.numbers.Letter.{Letter};
+ghost use Rattle.rl_automata.specs.Language.{IsWordOf, has_priority};
+ghost use Rattle.rl_automata.specs.Marks.{Marks, auto, AreHonest};
+ghost use Rattle.rl_automata.specs.Nodes.{Node, Ends};
+ghost use Rattle.rl_automata.specs.Runs.{unpruned};
+ghost use Rattle.rl_automata.specs.Scans.{Pattern, Confs, PatternMarks, ArePatternsHonest, scan_auto, token_list};
+ghost use Rattle.rl_model.specs.declared.spec.Spec.{Spec};
+ghost use Rattle.rl_model.specs.Specification.{Specification, specification_of, roots_of};
+ghost use Rattle.rl_model.specs.WellFormed.{IsWellFormed};
+ghost use Rattle.rl_model.specs.Trees.{TestsOf, AreTestsHonest, HasHonestTests, root_at, context_of, tree_machine};
+ghost use Rattle.rl_build.specs.Entries.{AreMachinesOf};
+ghost use Rattle.rl_build.specs.Roots.{graph_at, root_machine, IsTwinOf};
+ghost use Rattle.rl_fsm.specs.declared.root.EntryFsm.{EntryFsm};
+ghost use Rattle.rl_fsm.specs.Graphs.{fsm_auto};
+ghost use Rattle.rl_run.specs.Alike.{MakeSameRuns};
+ghost use Rattle.rl_run.specs.Machine.{Machine};
+ghost use Rattle.rl_types.specs.Alphabet.{key_of};
+ghost use Rattle.rl_language.specs.Verdicts.{IsWithoutPriorities, IsWordOfEntry, HasNoStatements, letters_from, VerdictsTellWords, VerdictsTellPlainWords};
+ghost use Rattle.rl_language.specs.Replays.{EndsWithVerdict};
+ghost use Rattle.rl_replay.specs.Sessions.{Names, entry_or_start};
+ghost use Rattle.rl_replay.specs.Written.{written, whole_input};
+ghost use Rattle.rl_run.specs.declared.calls.Verdict.TheVariants.{Final};
+ghost use Rattle.rl_run.specs.declared.sessions.Settings.{Settings};
+ghost use Rattle.rl_language.specs.Scanners.{IsWordOfSome, ArePatternsWithoutPriorities, Leads, MakesToken};
+
+/// The automaton of an expression without priorities goes along a word to a final configuration exactly where the word
+/// is one of the expression's, whichever honest tests are taken. So it does where nothing is pruned: dropping the steps to
+/// what can't end takes no word.
+pub fn automata_match_words()
+    ensures honest { (t : Node) (k : Marks t) → has_priority t ≡ false → AreHonest t k → (w : List Letter) → Ends (auto t k) w (auto t k).start ↔ IsWordOf t w }
+    ensures unpruned { (t : Node) → has_priority t ≡ false → (w : List Letter) → Ends (auto t (unpruned t)) w (auto t (unpruned t)).start ↔ IsWordOf t w }
+{}
+
+/// Where no action has a control statement, the verdict of a run says whether its input is a word of the entry: a run
+/// over a whole input from an entry whose expression has no priorities ends with the verdict Final exactly where the
+/// input's letters are one of the expression's words, unless an answer stopped it. Each condition is to be answered as it
+/// holds at its position; without conditions there is nothing to answer. What makes the same runs tells the same.
+pub fn verdicts_tell_words()
+    ensures trees { (spec : Specification) (tests : TestsOf spec) → AreTestsHonest spec tests → HasNoStatements spec → (e : ℕ) → 1 ≤ e → e ≤ length spec.entries →
+        IsWithoutPriorities (root_at (roots_of spec) e) → VerdictsTellWords (tree_machine spec tests) e (root_at (roots_of spec) e) }
+    ensures alike { (spec : Specification) (tests : TestsOf spec) (m : Machine ℕ) (rename : ℕ → ℕ) → AreTestsHonest spec tests → HasNoStatements spec → (e : ℕ) → 1 ≤ e → e ≤ length spec.entries →
+        IsWithoutPriorities (root_at (roots_of spec) e) → MakeSameRuns (tree_machine spec tests) m rename → ((byte : ℕ) → m.key_of byte ≡ key_of spec.alphabet byte) →
+        VerdictsTellWords m e (root_at (roots_of spec) e) }
+    ensures unasked { (spec : Spec) (tests : TestsOf (specification_of spec)) → IsWellFormed spec → AreTestsHonest (specification_of spec) tests → HasNoStatements (specification_of spec) → (specification_of spec).conditions ≡ [] →
+        (e : ℕ) → 1 ≤ e → e ≤ length (specification_of spec).entries → IsWithoutPriorities (root_at (roots_of (specification_of spec)) e) →
+        VerdictsTellPlainWords (tree_machine (specification_of spec) tests) e (root_at (roots_of (specification_of spec)) e) }
+{}
+
+/// So a replay says of an input whether it is a word: where no action has a control statement, the last line that is written
+/// for a script which opens a session, feeds it one piece and ends it is the session's end line, and its verdict is Final
+/// exactly where the piece is a word of the session's entry. The host says No to each condition, so none holds.
+pub fn replays_tell_words()
+    ensures { (spec : Specification) (tests : TestsOf spec) → AreTestsHonest spec tests → HasNoStatements spec → (names : Names) (settings : Settings) (s : List ℕ) (entry : Option (List ℕ)) (bytes : List ℕ) → length bytes < 2 ^ 63 →
+        1 ≤ entry_or_start names entry → entry_or_start names entry ≤ length spec.entries → IsWithoutPriorities (root_at (roots_of spec) (entry_or_start names entry)) →
+        EndsWithVerdict (written names (tree_machine spec tests) settings (whole_input s entry bytes)) s
+        (λ verdict. (verdict ≡ Final) ↔ IsWordOfEntry (root_at (roots_of spec) (entry_or_start names entry)) (letters_from (key_of spec.alphabet) (λ p. 0) 0 bytes)) }
+{}
+
+/// A scanner whose patterns have no priorities: its automaton goes along a word to a match exactly where the word is one of
+/// some pattern's, so the last match on the way along a longer word is at the longest front of it that some pattern has.
+/// Where a word leads, the token list is that of the first pattern that has the word; and where no step is on a letter,
+/// no word that goes on with the letter is one of any pattern's.
+pub fn scanners_match_words()
+    ensures words { (ps : List Pattern) (k : PatternMarks ps) → ArePatternsWithoutPriorities ps → ArePatternsHonest ps k → (w : List Letter) → Ends (scan_auto ps k) w (scan_auto ps k).start ↔ IsWordOfSome ps w }
+    ensures tokens { (ps : List Pattern) (k : PatternMarks ps) → ArePatternsWithoutPriorities ps → ArePatternsHonest ps k → (w : List Letter) (c : Confs ps) → Leads (scan_auto ps k) w (scan_auto ps k).start c → MakesToken ps k w (token_list ps k c) }
+    ensures stuck { (ps : List Pattern) (k : PatternMarks ps) → ArePatternsWithoutPriorities ps → ArePatternsHonest ps k → (w : List Letter) (c : Confs ps) → Leads (scan_auto ps k) w (scan_auto ps k).start c →
+        (l : Letter) → (scan_auto ps k).step c l ≡ None → (v : List Letter) → ¬ IsWordOfSome ps (w ++ l ∷ v) }
+{}
+
+/// What `build` gives finds the same words: the machine of an entry whose expression has no priorities ends in a final
+/// state along exactly the words of the expression, and where no action has a control statement the verdicts of runs over
+/// the machines of all entries tell them. The premises are what `build` promises of an `Ok`.
+pub fn built_machines_match_words()
+    ensures machines { (spec : Specification) (entries : List EntryFsm) → AreMachinesOf (roots_of spec) entries → HasHonestTests spec → (e : ℕ) → 1 ≤ e → e ≤ length spec.entries →
+        IsWithoutPriorities (root_at (roots_of spec) e) → (w : List Letter) → Ends (fsm_auto (graph_at entries e)) w (graph_at entries e).start ↔ IsWordOfEntry (root_at (roots_of spec) e) w }
+    ensures verdicts { (spec : Specification) (tests : TestsOf spec) (entries : List EntryFsm) → AreTestsHonest spec tests → IsTwinOf spec tests entries → HasNoStatements spec → (e : ℕ) → 1 ≤ e → e ≤ length spec.entries →
+        IsWithoutPriorities (root_at (roots_of spec) e) → VerdictsTellWords (root_machine entries (context_of spec)) e (root_at (roots_of spec) e) }
+{}
