@@ -1,11 +1,7 @@
-pub mod Unbroken
-pub mod Logged
-pub mod Broken
-pub mod Behind
 pub mod ReadLaws
 pub mod NodeLaws
 pub mod SourceLaws
-pub mod Complete
-pub mod StartLaws
+pub mod MadeLaws
 pub mod Prescribed
 pub mod Steps
+pub mod Complete

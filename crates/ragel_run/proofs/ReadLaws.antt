@@ -29,8 +29,9 @@ use Rattle.ragel_run.specs.declared.refusal.Refusal.TheVariants as refusals
 use Rattle.ragel_run.specs.declared.source.Unread.{Unread}
 use Rattle.ragel_run.specs.declared.source.Unread.TheVariants as unread
 use Rattle.ragel_run.specs.Sources.{HasTrees, IsUnread, IsToldAs, IsUnbuilt}
-use Rattle.ragel_run.specs.Replay.{RefusesSource}
-use Rattle.ragel_run.specs.Reads.{ReadsTrees, ReadsSpecs, ReadsSource, TellsNode, HasNoTables, IsMadeFor, refusal_by_text, refusal_by_names}
+use Rattle.ragel_run.specs.Files.{IsMadeFor}
+use Rattle.ragel_run.specs.Replay.{RefusesSource, HasNoSource}
+use Rattle.ragel_run.specs.Reads.{ReadsTrees, ReadsSpecs, ReadsSource, TellsNode, IsRefusedSpec, refusal_by_text, refusal_by_names}
 
 -- ---- the text
 
@@ -114,27 +115,13 @@ first_formed (x ∷ xs) spec formed running at = subst HasForm (same_spec x spec
     some xs = omega arith
 
 -- a node that is refused
-of_node : (spec : Spec) (r : BuildRefusal) (e : Refusal) → TellsRefusal spec r → TellsNode spec.files r e → HasNoTables spec e
-of_node spec r refusals.Usage t k = k
+of_node : (spec : Spec) (r : BuildRefusal) (e : Refusal) → TellsRefusal spec r → TellsNode spec.files r e → IsRefusedSpec spec e
 of_node spec r (refusals.Source s) t k = (k.0, r.place, subst (λ o. IfSome o (λ cause. IsRefusedAt spec cause r.place)) k.1 t, k.2)
-of_node spec r refusals.NoScript t k = k
-of_node spec r refusals.ScriptFailed t k = k
-of_node spec r (refusals.BadLine line) t k = k
-of_node spec r refusals.OutputFailed t k = k
 of_node spec r refusals.Memory t k = tt
+of_node spec r _ t k = k
 
-pub node_told : (spec : Spec) (files : List (List ℕ)) (r : BuildRefusal) (e : Refusal) → files ≡ spec.files → TellsRefusal spec r → TellsNode files r e → HasNoTables spec e
+pub node_told : (spec : Spec) (files : List (List ℕ)) (r : BuildRefusal) (e : Refusal) → files ≡ spec.files → TellsRefusal spec r → TellsNode files r e → IsRefusedSpec spec e
 node_told spec files r e same t k = of_node spec r e t (subst (λ fs. TellsNode fs r e) same k)
-
--- a source that has no Specs
-pub source_by_specs : (held : Held) (name : List ℕ) (before now : ℕ) (e : Refusal) → ReadsSpecs held name before now (Err e) → ReadsSource held name before now (Err e)
-source_by_specs held name before now refusals.Usage p = p
-source_by_specs held name before now (refusals.Source s) p = p
-source_by_specs held name before now refusals.NoScript p = p
-source_by_specs held name before now refusals.ScriptFailed p = p
-source_by_specs held name before now (refusals.BadLine line) p = p
-source_by_specs held name before now refusals.OutputFailed p = p
-source_by_specs held name before now refusals.Memory p = p
 
 -- a refused node is no failure of the store
 not_failed : (c : Cause) (place : Place) (file name : List ℕ) → IsToldAs c place file (stop.StoreFailed name) → ⊥
@@ -149,16 +136,17 @@ unbuilt held name before now (stop.Limit limit file) h quiet = inl (inr (inr h),
 unbuilt held name before now (stop.Missing file) h quiet = inl (inr (inr h), quiet)
 unbuilt held name before now (stop.StoreFailed file) h quiet = absurd (not_failed h.cause h.place (file_name h.spec.files h.place.file) file h.told)
 
--- and one that has
+-- one that is refused has no tables
+node_refused : (held : Held) (name : List ℕ) (before now : ℕ) (specs : List Spec) (spec : Spec) (e : Refusal) → ReadsSpecs held name before now (Ok specs) → slice_get specs 0 ≡ Some spec →
+    IsRefusedSpec spec e → HasNoSource held name before now e
+node_refused held name before now specs spec (refusals.Source s) h at p =
+    unbuilt held name before now s (record { spec = spec; named = record { specs = specs; has = h.0; first = at }; cause = p.0; place = p.1; refused = p.2; told = p.3 }) h.1
+node_refused held name before now specs spec refusals.Memory h at p = tt
+node_refused held name before now specs spec _ h at p = p
+
+-- and one that is not has them
 pub source_read : (held : Held) (name : List ℕ) (before now : ℕ) (specs : List Spec) (spec : Spec) (r : Result Arrays Refusal) → ReadsSpecs held name before now (Ok specs) → slice_get specs 0 ≡ Some spec →
-    IfOk r (λ _. IsBuildable spec) → IfOk r (IsMadeFor spec) → IfErr r (HasNoTables spec) → ReadsSource held name before now r
+    IfOk r (λ _. IsBuildable spec) → IfOk r (IsMadeFor spec) → IfErr r (IsRefusedSpec spec) → ReadsSource held name before now r
 source_read held name before now specs spec (Ok a) h at buildable made stopped =
-    (spec, record { named = record { specs = specs; has = h.0; first = at }; buildable = buildable }, made, h.1)
-source_read held name before now specs spec (Err refusals.Usage) h at buildable made stopped = stopped
-source_read held name before now specs spec (Err (refusals.Source s)) h at buildable made stopped =
-    unbuilt held name before now s (record { spec = spec; named = record { specs = specs; has = h.0; first = at }; cause = stopped.0; place = stopped.1; refused = stopped.2; told = stopped.3 }) h.1
-source_read held name before now specs spec (Err refusals.NoScript) h at buildable made stopped = stopped
-source_read held name before now specs spec (Err refusals.ScriptFailed) h at buildable made stopped = stopped
-source_read held name before now specs spec (Err (refusals.BadLine line)) h at buildable made stopped = stopped
-source_read held name before now specs spec (Err refusals.OutputFailed) h at buildable made stopped = stopped
-source_read held name before now specs spec (Err refusals.Memory) h at buildable made stopped = tt
+    (record { source = spec; has = record { named = record { specs = specs; has = h.0; first = at }; buildable = buildable }; made = made }, h.1)
+source_read held name before now specs spec (Err e) h at buildable made stopped = node_refused held name before now specs spec e h at stopped

@@ -103,7 +103,7 @@ module _ (held : Held) (told : IsSome held) (name : List ℕ) where
   specs_once xs ys h k =
       resolved_once held name h.trees First xs ys told h.resolves (subst (λ ts. Resolves held name ts First ys) (trees_once k.trees h.trees k.has h.has) k.resolves)
 
-  spec_once : (a b : Spec) → HasSpec held name a → HasSpec held name b → description a ≡ description b
+  pub spec_once : (a b : Spec) → HasSpec held name a → HasSpec held name b → description a ≡ description b
   spec_once a b h k = firsts_same h.specs k.specs a b (specs_once h.specs k.specs h.has k.has) h.first k.first
 
   due : (s : Stop) → (h : IsUnresolved ⊥ held name s) → IsDue held name h.trees First (stopped_by s)

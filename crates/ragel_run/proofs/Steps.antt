@@ -1,109 +1,115 @@
 -- How the steps of a replay put together say how it ends.
-use Rattle.std.proofs.Common.{◌≡◌, ◌∙◌, ℕ, true, List, [], Option, Result, Ok, Err, subst}
-use Rattle.rl_io.specs.Outside.{Held, Reads, Appends, AppendsPrefix}
+use Rattle.std.proofs.Common.{◌≡◌, ◌∙◌, ◌⊎◌, inl, inr, ℕ, List, Option, Result, Ok, Err, subst}
+use Rattle.std.specs.Prelude.{IfOk, IfErr}
+use Rattle.rl_io.specs.Outside.{Held, Appends, AppendsPrefix}
 use Rattle.rl_arrays.specs.declared.arrays.Arrays.{Arrays}
-use Rattle.rl_arrays.specs.Rules.{start_entry}
-use Rattle.rl_arrays.specs.TableMachine.{machine}
-use Rattle.rl_model.specs.declared.spec.Spec.{Spec}
 use Rattle.rl_replay.specs.declared.script.Line.{Line}
-use Rattle.rl_replay.specs.declared.script.ScriptFault.TheVariants as faults
-use Rattle.rl_replay.specs.Host.{host}
-use Rattle.rl_replay.specs.Lines.{run_lines}
-use Rattle.rl_script.specs.declared.one_session.OneSession.{OneSession}
-use Rattle.rl_script.specs.OneSession.{one_session, IsOf, Explains}
+use Rattle.rl_script.specs.TableNames.{names_in}
 use Rattle.ragel_run.specs.declared.refusal.Refusal.{Refusal}
 use Rattle.ragel_run.specs.declared.refusal.Refusal.TheVariants as refusals
-use Rattle.ragel_run.specs.Ends.{default_settings}
-use Rattle.ragel_run.specs.Sources.{HasSource}
-use Rattle.ragel_run.specs.Replay.{AreWords, Outside, HasScript, IsFirstBad, WritesAsOne, Replays, IsRefused, Ends, Refuses}
-use Rattle.ragel_run.specs.Reads.{ReadsSource, ReadsScript, WritesLines}
+use Rattle.ragel_run.specs.Files.{Gives, HasScript}
+use Rattle.ragel_run.specs.Replay.{AreWords, Outside, ReplaysSource, ReplaysPrinted, Replays, HasNoTables, Refuses, IsRefused, Ends, written_by}
+use Rattle.ragel_run.specs.Reads.{ReadsTables, GivesLines, WritesLines}
 use Rattle.ragel_run.proofs.Prescribed.{lines_prescribed}
 
--- a source that has no machine
-pub source_refused : (held : Held) (words : List (List ℕ)) (spec script : List ℕ) (before now : ℕ) (e : Refusal) →
-    AreWords words spec script → ReadsSource held spec before now (Err e) → Refuses held words before now e
-source_refused held words spec script before now refusals.Usage w p = absurd p
-source_refused held words spec script before now (refusals.Source s) w p = (spec, script, w, p)
-source_refused held words spec script before now refusals.NoScript w p = absurd p
-source_refused held words spec script before now refusals.ScriptFailed w p = absurd p
-source_refused held words spec script before now (refusals.BadLine line) w p = absurd p
-source_refused held words spec script before now refusals.OutputFailed w p = absurd p
-source_refused held words spec script before now refusals.Memory w p = tt
+-- ---- the words name two files
 
--- a script that is read, and one with a bad line
-pub script_read : (held : Held) (name text bytes : List ℕ) (one : OneSession) (before now : ℕ) → Reads held name text → bytes ≡ text →
-    ((script : List Line) × (one_session bytes ≡ Ok script) × IsOf script one) → ((script : List Line) → one_session bytes ≡ Ok script → WritesAsOne script one.session one.bytes) →
-    now ≡ before → ReadsScript held name before now (Ok one)
-script_read held name text bytes one before now reads same found joined quiet =
-    (found.0, record { text = text; reads = reads; form = subst (λ t. one_session t ≡ Ok found.0) same found.1 }, joined found.0 found.1, quiet)
+-- the first gives no tables
+pub no_tables : (held : Held) (words : List (List ℕ)) (spec script : List ℕ) (before now : ℕ) (e : Refusal) →
+    AreWords words spec script → ReadsTables held spec before now (Err e) → Refuses held words before now e
+no_tables held words spec script before now e w p = inr (spec, script, w, inl p)
 
-pub script_bad : (held : Held) (name text bytes : List ℕ) (line before now : ℕ) → Reads held name text → bytes ≡ text → Explains bytes (faults.BadLine line) →
-    now ≡ before → ReadsScript held name before now (Err (refusals.BadLine line))
-script_bad held name text bytes line before now reads same bad quiet = (text, reads, subst (λ t. IsFirstBad t line) same bad, quiet)
+-- the lines that tables write are due
+replays_by : (held : Held) (spec script : List ℕ) (a : Arrays) (lines : List Line) (items : List ℕ) → Gives held spec a → HasScript held script (names_in a) lines → items ≡ written_by a lines →
+    ReplaysSource (λ due. items ≡ due) held spec script ⊎ ReplaysPrinted (λ due. items ≡ due) held spec script
+replays_by held spec script a lines items (inl (e, m)) h same = inl (record {
+  by_name = e;
+  source = m.source;
+  has = m.has;
+  arrays = a;
+  made = m.made;
+  lines = lines;
+  admitted = h;
+  gains = λ tests honest. same ∙ lines_prescribed m.source a m.made lines tests honest;
+})
+replays_by held spec script a lines items (inr (e, s)) h same = inr (record { by_name = e; arrays = a; spelled = s; lines = lines; admitted = h; gains = same })
 
--- a script that is not read
-script_refused : (held : Held) (words : List (List ℕ)) (spec script : List ℕ) (source : Spec) (before now : ℕ) (e : Refusal) →
-    AreWords words spec script → HasSource held spec source → ReadsScript held script before now (Err e) → Refuses held words before now e
-script_refused held words spec script source before now refusals.Usage w h p = absurd p
-script_refused held words spec script source before now (refusals.Source s) w h p = absurd p
-script_refused held words spec script source before now refusals.NoScript w h p = (spec, script, w, source, h, p.0, p.1)
-script_refused held words spec script source before now refusals.ScriptFailed w h p = (spec, script, w, source, h, p)
-script_refused held words spec script source before now (refusals.BadLine line) w h p = (spec, script, w, source, h, p.0, p.1, p.2, p.3)
-script_refused held words spec script source before now refusals.OutputFailed w h p = absurd p
-script_refused held words spec script source before now refusals.Memory w h p = tt
+module _ (held mid_held : Held) (words : List (List ℕ)) (spec script : List ℕ) (a : Arrays) (before mid now : ℕ) (same : mid_held ≡ held) (w : AreWords words spec script)
+    (given : ReadsTables held spec before mid (Ok a)) where
+  -- the same by what stood before the tables were read
+  from_start : (r : Result (List ℕ) Refusal) → GivesLines mid_held script a mid now r → GivesLines held script a before now r
+  from_start r p = subst (λ n. GivesLines held script a n now r) given.1 (subst (λ x. GivesLines x script a mid now r) same p)
 
--- the same by what stood before the source was read
-pub script_refused_from : (held mid_held : Held) (words : List (List ℕ)) (spec script : List ℕ) (a : Arrays) (before mid now : ℕ) (e : Refusal) → mid_held ≡ held →
-    AreWords words spec script → ReadsSource held spec before mid (Ok a) → ReadsScript mid_held script mid now (Err e) → Refuses held words before now e
-script_refused_from held mid_held words spec script a before mid now e same_held w h p =
-    script_refused held words spec script h.0 before now e w h.1
-    (subst (λ n. ReadsScript held script n now (Err e)) h.3 (subst (λ x. ReadsScript x script mid now (Err e)) same_held p))
+  due : (r : Result (List ℕ) Refusal) → GivesLines held script a before now r → IfOk r (λ items. Replays (λ lines. items ≡ lines) held words)
+  due (Ok items) p = (spec, script, w, replays_by held spec script a p.0 items given.0 p.1 p.2)
+  due (Err e) p = tt
 
--- a source and a script that are read, and the lines of the run
-pub lines_due : (held mid_held : Held) (words : List (List ℕ)) (spec script : List ℕ) (a : Arrays) (one : OneSession) (before mid now : ℕ) (items : List ℕ) → mid_held ≡ held →
-    AreWords words spec script → ReadsSource held spec before mid (Ok a) → ReadsScript mid_held script mid now (Ok one) →
-    items ≡ run_lines (machine a) default_settings one.session (host (machine a) []) (start_entry a) (record { base = 0; bytes = one.bytes; is_closed = true }) →
-    Replays (λ due. items ≡ due) held words
-lines_due held mid_held words spec script a one before mid now items same_held w h s ran = (
-  spec,
-  script,
-  w,
-  h.0,
-  h.1,
-  s.0,
-  subst (λ x. HasScript x script s.0) same_held s.1,
-  λ tests honest. lines_prescribed h.0 a one.session one.bytes items h.2 ran s.0 s.2 tests honest,
-)
+  quiet : (r : Result (List ℕ) Refusal) → GivesLines held script a before now r → IfOk r (λ items. now ≡ before)
+  quiet (Ok items) p = p.3
+  quiet (Err e) p = tt
 
--- the count after both is the one before
-pub both_quiet : (held mid_held : Held) (spec script : List ℕ) (a : Arrays) (one : OneSession) (before mid now : ℕ) → ReadsSource held spec before mid (Ok a) → ReadsScript mid_held script mid now (Ok one) → now ≡ before
-both_quiet held mid_held spec script a one before mid now h s = s.3 ∙ h.3
+  refused_so : (r : Result (List ℕ) Refusal) → GivesLines held script a before now r → IfErr r (Refuses held words before now)
+  refused_so (Ok items) p = tt
+  refused_so (Err e) p = inr (spec, script, w, inr (a, given.0, p))
+
+  pub lines_due : (r : Result (List ℕ) Refusal) → GivesLines mid_held script a mid now r → IfOk r (λ items. Replays (λ lines. items ≡ lines) held words)
+  lines_due r p = due r (from_start r p)
+
+  pub lines_quiet : (r : Result (List ℕ) Refusal) → GivesLines mid_held script a mid now r → IfOk r (λ items. now ≡ before)
+  lines_quiet r p = quiet r (from_start r p)
+
+  pub lines_refused : (r : Result (List ℕ) Refusal) → GivesLines mid_held script a mid now r → IfErr r (Refuses held words before now)
+  lines_refused r p = refused_so r (from_start r p)
+
+-- ---- the output
 
 -- where no lines are due, nothing was written
-pub refused : (o : Outside) (words : List (List ℕ)) (e : Refusal) → IsRefused o words e → Ends {T = Unit {0}} o words (Err e)
-refused o words refusals.Usage p = p
-refused o words (refusals.Source s) p = p
-refused o words refusals.NoScript p = p
-refused o words refusals.ScriptFailed p = p
-refused o words (refusals.BadLine line) p = p
-refused o words refusals.OutputFailed p = absurd p.0
-refused o words refusals.Memory p = p
+not_by_output : (o : Outside) (words : List (List ℕ)) → IsRefused o words refusals.OutputFailed → ⊥
+not_by_output o words (inl u, silent, out) = absurd (cc u.1)
+not_by_output o words (inr (spec, script, w, inl (inl p)), silent, out) = p.1
+not_by_output o words (inr (spec, script, w, inl (inr p)), silent, out) = p.1
+not_by_output o words (inr (spec, script, w, inr p), silent, out) = p.2
 
--- the lines that are due gain what the expressions prescribe
+pub refused : (o : Outside) (words : List (List ℕ)) (e : Refusal) → IsRefused o words e → Ends {T = Unit {0}} o words (Err e)
+refused o words refusals.OutputFailed p = absurd (not_by_output o words p)
+refused o words _ p = p
+
+-- the lines that are due gain what is due
+gains_by : (Gains : List ℕ → Type 0) (held : Held) (spec script items : List ℕ) →
+    ReplaysSource (λ due. items ≡ due) held spec script ⊎ ReplaysPrinted (λ due. items ≡ due) held spec script → Gains items →
+    ReplaysSource Gains held spec script ⊎ ReplaysPrinted Gains held spec script
+gains_by Gains held spec script items (inl r) g = inl (record {
+  by_name = r.by_name;
+  source = r.source;
+  has = r.has;
+  arrays = r.arrays;
+  made = r.made;
+  lines = r.lines;
+  admitted = r.admitted;
+  gains = λ tests honest. subst Gains (r.gains tests honest) g;
+})
+gains_by Gains held spec script items (inr r) g =
+    inr (record { by_name = r.by_name; arrays = r.arrays; spelled = r.spelled; lines = r.lines; admitted = r.admitted; gains = subst Gains r.gains g })
+
 gains : (Gains : List ℕ → Type 0) (held : Held) (words : List (List ℕ)) (items : List ℕ) → Replays (λ due. items ≡ due) held words → Gains items → Replays Gains held words
-gains Gains held words items r g = (r.0, r.1, r.2, r.3, r.4, r.5, r.6, λ tests honest. subst Gains (r.7 tests honest) g)
+gains Gains held words items r g = (r.0, r.1, r.2, gains_by Gains held r.0 r.1 items r.3 g)
+
+-- the words name two files, so want of memory needs no cause
+no_memory_by : (held : Held) (spec script items : List ℕ) (before now : ℕ) → ReplaysSource (λ due. items ≡ due) held spec script ⊎ ReplaysPrinted (λ due. items ≡ due) held spec script →
+    HasNoTables held spec before now refusals.Memory
+no_memory_by held spec script items before now (inl s) = inl (s.by_name, tt)
+no_memory_by held spec script items before now (inr s) = inr (s.by_name, tt)
+
+no_memory : (held : Held) (words : List (List ℕ)) (items : List ℕ) (before now : ℕ) → Replays (λ due. items ≡ due) held words → Refuses held words before now refusals.Memory
+no_memory held words items before now r = inr (r.0, r.1, r.2, inl (no_memory_by held r.0 r.1 items before now r.3))
 
 -- where lines are due, they are written
 pub written : (o : Outside) (words : List (List ℕ)) (items : List ℕ) (r : Result (Unit {0}) Refusal) → Replays (λ due. items ≡ due) o.held words → o.store ≡ o.store_before →
     WritesLines items o.written_before o.written o.output_before o.output r → Ends o words r
 written o words items (Ok done) d s p = (gains (Appends o.written_before o.written) o.held words items d p.0, (s, p.1))
-written o words items (Err refusals.Usage) d s p = absurd p
-written o words items (Err (refusals.Source x)) d s p = absurd p
-written o words items (Err refusals.NoScript) d s p = absurd p
-written o words items (Err refusals.ScriptFailed) d s p = absurd p
-written o words items (Err (refusals.BadLine line)) d s p = absurd p
 written o words items (Err refusals.OutputFailed) d s p = (gains (AppendsPrefix o.written_before o.written) o.held words items d p.0, p.1, s)
-written o words items (Err refusals.Memory) d s p = (tt, p.0, p.1)
+written o words items (Err refusals.Memory) d s p = (no_memory o.held words items o.store_before o.store d, p.0, p.1)
+written o words items (Err _) d s p = absurd p
 
 -- the same of bytes that are the same
 pub of_bytes : (bytes items : List ℕ) (old new : Option (List ℕ)) (before now : ℕ) (r : Result (Unit {0}) Refusal) → bytes ≡ items →

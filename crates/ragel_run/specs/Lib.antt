@@ -1,6 +1,5 @@
-pub mod Log
-pub mod Ends
 pub mod Sources
+pub mod Files
 pub mod Replay
 pub mod Told
 pub mod Reads

@@ -1,24 +1,27 @@
 -- What the steps of a replay read and write.
-use Rattle.std.specs.Prelude.{◌≡◌, ℕ, List, Option, Some, Result, Ok, Err}
+use Rattle.std.specs.Prelude.{◌≡◌, ◌⊎◌, ℕ, List, Option, Some, Result, Ok, Err}
 use Rattle.rl_types.specs.declared.numbers.Place.{Place}
-use Rattle.rl_io.specs.Outside.{Held, Rose, Reads, Lacks, Appends, AppendsPrefix}
+use Rattle.rl_io.specs.Outside.{Held, Rose, Lacks, Appends, AppendsPrefix}
 use Rattle.rl_grammar.specs.declared.syntax.Syntax.{Syntax}
 use Rattle.rl_automata.specs.Refused.{Cause}
 use Rattle.rl_arrays.specs.declared.arrays.Arrays.{Arrays}
-use Rattle.rl_arrays.specs.Valid.{Valid}
 use Rattle.rl_model.specs.declared.spec.Spec.{Spec}
 use Rattle.rl_model.specs.RefusedNode.{IsRefusedAt}
 use Rattle.rl_build.specs.declared.fault.BuildRefusal.{BuildRefusal}
 use Rattle.rl_build.specs.Trees.{cause_of}
 use Rattle.rl_replay.specs.declared.script.Line.{Line}
-use Rattle.rl_script.specs.declared.one_session.OneSession.{OneSession}
+use Rattle.rl_replay.specs.declared.script.Script.{Script}
+use Rattle.rl_replay.specs.declared.script.ScriptFault.{ScriptFault}
+use Rattle.rl_replay.specs.declared.script.ScriptFault.TheVariants as faults
+use Rattle.rl_replay.specs.Sessions.{Names, script_of}
+use Rattle.rl_script.specs.TableNames.{names_in}
 use Rattle.rl_includes.specs.declared.unrolled.Stop.TheVariants as stop
-use Rattle.rl_make.specs.Writes.{WritesAs, entry_names, names_in}
 use Rattle.rl_resolve.specs.declared.answer.ResolveFault.{ResolveFault}
 use Rattle.rl_resolve.specs.declared.answer.ResolveFault.TheVariants as fault
 use Rattle.rl_resolve.specs.Refusals.{file_name}
-use Rattle.ragel_run.specs.Sources.{HasTrees, HasSpecs, HasSource, IsUnread, IsToldAs}
-use Rattle.ragel_run.specs.Replay.{RefusesSource, HasScript, IsFirstBad, WritesAsOne}
+use Rattle.ragel_run.specs.Files.{IsMade, IsSpelled, Gives, HasScript}
+use Rattle.ragel_run.specs.Sources.{HasTrees, HasSpecs, IsUnread, IsToldAs}
+use Rattle.ragel_run.specs.Replay.{HasNoSource, HasNoSection, HasNoTables, HasNoLines, written_by}
 use Rattle.ragel_run.specs.declared.refusal.Refusal.{Refusal}
 use Rattle.ragel_run.specs.declared.refusal.Refusal.TheVariants as refusals
 use Rattle.ragel_run.specs.declared.source.Unread.{Unread}
@@ -54,9 +57,7 @@ refusal_by_names fault.Memory = refusals.Memory
 -- the specifications of a source, or why it has none
 abbrev pub ReadsSpecs : Held → List ℕ → ℕ → ℕ → Result (List Spec) Refusal → Type 0
 ReadsSpecs held name before now (Ok specs) = HasSpecs held name specs × (now ≡ before)
-ReadsSpecs held name before now (Err (refusals.Source s)) = RefusesSource held name before now s
-ReadsSpecs held name before now (Err refusals.Memory) = Unit {0}
-ReadsSpecs held name before now (Err _) = ⊥
+ReadsSpecs held name before now (Err refusal) = HasNoSource held name before now refusal
 
 -- how a refused node is told, or want of memory
 abbrev pub TellsNode : List (List ℕ) → BuildRefusal → Refusal → Type 0
@@ -64,35 +65,44 @@ TellsNode files r (refusals.Source s) = (cause : Cause) × (cause_of r.fault ≡
 TellsNode files r refusals.Memory = Unit {0}
 TellsNode files r _ = ⊥
 
--- arrays are made for a Spec: they are valid, and write what its expressions write, with the names of its entries
-pub record IsMadeFor (spec : Spec) (a : Arrays) : Type 0 where
-  pub valid : Valid a
-  pub writes : WritesAs spec a
-  pub entries : (names_in a).entries ≡ entry_names spec
-
 -- why a Spec has no tables: its first refused node, or want of memory
-abbrev pub HasNoTables : Spec → Refusal → Type 0
-HasNoTables spec (refusals.Source s) = (cause : Cause) × (place : Place) × IsRefusedAt spec cause place × IsToldAs cause place (file_name spec.files place.file) s
-HasNoTables spec refusals.Memory = Unit {0}
-HasNoTables spec _ = ⊥
+abbrev pub IsRefusedSpec : Spec → Refusal → Type 0
+IsRefusedSpec spec (refusals.Source s) = (cause : Cause) × (place : Place) × IsRefusedAt spec cause place × IsToldAs cause place (file_name spec.files place.file) s
+IsRefusedSpec spec refusals.Memory = Unit {0}
+IsRefusedSpec spec _ = ⊥
 
 -- the tables of a source's first machine, or why it has none
 abbrev pub ReadsSource : Held → List ℕ → ℕ → ℕ → Result Arrays Refusal → Type 0
-ReadsSource held name before now (Ok a) = (source : Spec) × HasSource held name source × IsMadeFor source a × (now ≡ before)
-ReadsSource held name before now (Err (refusals.Source s)) = RefusesSource held name before now s
-ReadsSource held name before now (Err refusals.Memory) = Unit {0}
-ReadsSource held name before now (Err _) = ⊥
+ReadsSource held name before now (Ok a) = IsMade held name a × (now ≡ before)
+ReadsSource held name before now (Err refusal) = HasNoSource held name before now refusal
+
+-- ---- the tables
+
+-- the tables that a printed file spells, or why it spells none
+abbrev pub ReadsSection : Held → List ℕ → ℕ → ℕ → Result Arrays Refusal → Type 0
+ReadsSection held name before now (Ok a) = IsSpelled held name a × (now ≡ before)
+ReadsSection held name before now (Err refusal) = HasNoSection held name before now refusal
+
+-- the tables that a source or a printed file gives, or why it gives none
+abbrev pub ReadsTables : Held → List ℕ → ℕ → ℕ → Result Arrays Refusal → Type 0
+ReadsTables held name before now (Ok a) = Gives held name a × (now ≡ before)
+ReadsTables held name before now (Err refusal) = HasNoTables held name before now refusal
 
 -- ---- the script
 
--- a script is read: its text has the form, or why it is not
-abbrev pub ReadsScript : Held → List ℕ → ℕ → ℕ → Result OneSession Refusal → Type 0
-ReadsScript held name before now (Ok one) = (lines : List Line) × HasScript held name lines × WritesAsOne lines one.session one.bytes × (now ≡ before)
-ReadsScript held name before now (Err refusals.NoScript) = Lacks held name × (now ≡ before)
-ReadsScript held name before now (Err refusals.ScriptFailed) = Rose before now
-ReadsScript held name before now (Err (refusals.BadLine line)) = (text : List ℕ) × Reads held name text × IsFirstBad text line × (now ≡ before)
-ReadsScript held name before now (Err refusals.Memory) = Unit {0}
-ReadsScript held name before now (Err _) = ⊥
+-- why a text is no script, where tables have these names; want of memory has no cause
+abbrev pub IsNoScript : Names → List ℕ → ScriptFault → Type 0
+IsNoScript names text fault = (fault ≡ faults.Memory) ⊎ (script_of names text ≡ Err fault)
+
+-- the lines of a script, or why it has none
+abbrev pub ReadsScript : Held → List ℕ → Names → ℕ → ℕ → Result Script Refusal → Type 0
+ReadsScript held name names before now (Ok script) = HasScript held name names script.lines × (now ≡ before)
+ReadsScript held name names before now (Err refusal) = HasNoLines held name names before now refusal
+
+-- what tables write for a script, or why it has no lines
+abbrev pub GivesLines : Held → List ℕ → Arrays → ℕ → ℕ → Result (List ℕ) Refusal → Type 0
+GivesLines held script a before now (Ok items) = (lines : List Line) × HasScript held script (names_in a) lines × (items ≡ written_by a lines) × (now ≡ before)
+GivesLines held script a before now (Err refusal) = HasNoLines held script (names_in a) before now refusal
 
 -- ---- the output
 

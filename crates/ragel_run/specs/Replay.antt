@@ -1,33 +1,37 @@
 -- What a replay writes, and when it ends how (this profile).
-use Rattle.std.specs.Prelude.{◌≡◌, ◌==◌, ◌⊎◌, ℕ, false, IsSome, List, [], ◌∷◌, map, Option, None, Result, Ok, Err, codes}
-use Rattle.std.specs.List.{ends_with}
+use Rattle.std.specs.Prelude.{◌≡◌, ◌⊎◌, ℕ, true, false, IsSome, List, [], ◌∷◌, map, Option, None, Result, Ok, Err}
 use Rattle.rl_types.specs.declared.faults.Fault.{Fault}
 use Rattle.rl_types.specs.declared.faults.Limit.{Limit}
 use Rattle.rl_types.specs.declared.status.Status.{Status}
 use Rattle.rl_types.specs.declared.status.Status.TheVariants as statuses
 use Rattle.rl_io.specs.Outside.{Held, Rose, Reads, Lacks, Appends, AppendsPrefix}
-use Rattle.rl_run.specs.declared.sessions.Settings.{Settings}
-use Rattle.rl_run.specs.Machine.{Machine}
+use Rattle.rl_arrays.specs.declared.arrays.Arrays.{Arrays}
+use Rattle.rl_arrays.specs.TableMachine.{machine}
+use Rattle.rl_cread.specs.Sections.{HasNone}
+use Rattle.rl_cread.specs.declared.fault.TableFault.{TableFault}
+use Rattle.rl_cread.specs.declared.fault.TableFault.TheVariants as marks
 use Rattle.rl_model.specs.declared.spec.ActionDef.{ActionDef}
 use Rattle.rl_model.specs.declared.spec.Spec.{Spec}
 use Rattle.rl_model.specs.Specification.{specification_of, action_name_at}
 use Rattle.rl_model.specs.Trees.{TestsOf, AreTestsHonest, tree_machine}
 use Rattle.rl_replay.specs.declared.script.Line.{Line}
+use Rattle.rl_replay.specs.declared.script.ScriptFault.{ScriptFault}
 use Rattle.rl_replay.specs.declared.script.ScriptFault.TheVariants as faults
 use Rattle.rl_replay.specs.Sessions.{Names}
-use Rattle.rl_replay.specs.Written.{written, whole_input}
-use Rattle.rl_script.specs.OneSession.{one_session}
+use Rattle.rl_replay.specs.Written.{written}
+use Rattle.rl_script.specs.TableNames.{names_in}
+use Rattle.rl_playback.specs.Defaults.{default_settings}
 use Rattle.rl_includes.specs.declared.unrolled.Stop.{Stop}
 use Rattle.rl_includes.specs.declared.unrolled.Stop.TheVariants as stop
 use Rattle.rl_make.specs.Writes.{entry_names}
-use Rattle.ragel_run.specs.Ends.{default_settings}
+use Rattle.ragel_run.specs.Files.{is_printed, IsMadeFor, IsSection, IsSpelled, IsMisspelled, Gives, HasScript, IsFaulty}
 use Rattle.ragel_run.specs.Sources.{HasSource, IsUnresolved, StopsByItself, Stops}
 use Rattle.ragel_run.specs.declared.refusal.Refusal.{Refusal}
 use Rattle.ragel_run.specs.declared.refusal.Refusal.TheVariants as refusals
 
--- the words name a source and a script; a printed file is no source
+-- the words name a source or a printed file, and a script
 abbrev pub AreWords : List (List ℕ) → List ℕ → List ℕ → Type 0
-AreWords words spec script = (words ≡ spec ∷ script ∷ []) × (ends_with (λ a b. a == b) spec (codes ".c") ≡ false)
+AreWords words spec script = words ≡ spec ∷ script ∷ []
 
 -- the words name nothing that is replayed
 abbrev pub AreNoWords : List (List ℕ) → Type 0
@@ -55,23 +59,6 @@ outside held written_before written store_before store output_before output = re
   output = output;
 }
 
--- ---- the script
-
--- the text under a name is a script of one session, which has these lines
-pub record HasScript (held : Held) (name : List ℕ) (lines : List Line) : Type 0 where
-  pub text : List ℕ
-  pub reads : Reads held name text
-  pub form : one_session text ≡ Ok lines
-
--- the first line of a text that is not due in a script of one session; it may be missing
-abbrev pub IsFirstBad : List ℕ → ℕ → Type 0
-IsFirstBad text line = one_session text ≡ Err (faults.BadLine line)
-
--- lines write what one piece of all the bytes writes, whatever machine they are for
-abbrev pub WritesAsOne : List Line → List ℕ → List ℕ → Type 0
-WritesAsOne lines session bytes = (names : Names) (m : Machine ℕ) (settings : Settings) →
-    written names m settings lines ≡ written names m settings (whole_input session None bytes)
-
 -- ---- what is written
 
 -- the names of a Spec's entries, actions and conditions; a condition has its action's name
@@ -86,12 +73,36 @@ names_of spec = record {
 abbrev pub prescribed : (spec : Spec) → TestsOf (specification_of spec) → List Line → List ℕ
 prescribed spec tests lines = written (names_of spec) (tree_machine (specification_of spec) tests) default_settings lines
 
--- the source and the script have their forms, and the output gained by what the expressions prescribe, whatever the honest
--- tests
+-- what the machine of arrays writes for them
+abbrev pub written_by : Arrays → List Line → List ℕ
+written_by a lines = written (names_in a) (machine a) default_settings lines
+
+-- the output gained by what the expressions of a source prescribe for a script, whatever the honest tests. The script has
+-- no fault where its names are those of tables that are made for the source: an action that stands in no list has no name
+-- there
+pub record ReplaysSource (Gains : List ℕ → Type 0) (held : Held) (spec script : List ℕ) : Type 0 where
+  pub by_name : is_printed spec ≡ false
+  pub source : Spec
+  pub has : HasSource held spec source
+  pub arrays : Arrays
+  pub made : IsMadeFor source arrays
+  pub lines : List Line
+  pub admitted : HasScript held script (names_in arrays) lines
+  pub gains : (tests : TestsOf (specification_of source)) → AreTestsHonest (specification_of source) tests → Gains (prescribed source tests lines)
+
+-- the output gained by what the arrays write that a printed file spells
+pub record ReplaysPrinted (Gains : List ℕ → Type 0) (held : Held) (spec script : List ℕ) : Type 0 where
+  pub by_name : is_printed spec ≡ true
+  pub arrays : Arrays
+  pub spelled : IsSpelled held spec arrays
+  pub lines : List Line
+  pub admitted : HasScript held script (names_in arrays) lines
+  pub gains : Gains (written_by arrays lines)
+
+-- the words name files that have their forms, and the output gained by what is due
 abbrev pub Replays : (List ℕ → Type 0) → Held → List (List ℕ) → Type 0
-Replays Gains held words = (spec script : List ℕ) × AreWords words spec script × (source : Spec) × HasSource held spec source
-    × (lines : List Line) × HasScript held script lines
-    × ((tests : TestsOf (specification_of source)) → AreTestsHonest (specification_of source) tests → Gains (prescribed source tests lines))
+Replays Gains held words =
+    (spec script : List ℕ) × AreWords words spec script × (ReplaysSource Gains held spec script ⊎ ReplaysPrinted Gains held spec script)
 
 -- neither the store nor the output failed
 abbrev pub IsFaultless : Outside → Type 0
@@ -117,19 +128,43 @@ RefusesSource held spec before now (stop.StoreFailed file) =
     Rose before now × ((file ≡ spec) ⊎ IsUnresolved (Rose before now) held spec (stop.StoreFailed file))
 RefusesSource held spec before now s = (StopsByItself held spec s × (now ≡ before)) ⊎ IsUnresolved (Rose before now) held spec s
 
--- why no lines are due, before anything is written; the script is looked at where the source has a machine
+-- why a source has no tables
+abbrev pub HasNoSource : Held → List ℕ → ℕ → ℕ → Refusal → Type 0
+HasNoSource held spec before now (refusals.Source s) = RefusesSource held spec before now s
+HasNoSource held spec before now refusals.Memory = Unit {0}
+HasNoSource held spec before now _ = ⊥
+
+-- why a printed file has none
+abbrev pub HasNoSection : Held → List ℕ → ℕ → ℕ → Refusal → Type 0
+HasNoSection held spec before now refusals.NoPrinted = Lacks held spec × (now ≡ before)
+HasNoSection held spec before now refusals.PrintedFailed = Rose before now
+HasNoSection held spec before now (refusals.Section fault) = ((fault ≡ marks.Memory) ⊎ IsMisspelled held spec fault) × (now ≡ before)
+HasNoSection held spec before now refusals.Memory = Unit {0}
+HasNoSection held spec before now _ = ⊥
+
+-- why the first file has none
+abbrev pub HasNoTables : Held → List ℕ → ℕ → ℕ → Refusal → Type 0
+HasNoTables held spec before now refusal =
+    ((is_printed spec ≡ false) × HasNoSource held spec before now refusal) ⊎ ((is_printed spec ≡ true) × HasNoSection held spec before now refusal)
+
+-- why a script has no lines, where tables have these names
+abbrev pub HasNoLines : Held → List ℕ → Names → ℕ → ℕ → Refusal → Type 0
+HasNoLines held script names before now refusals.NoScript = Lacks held script × (now ≡ before)
+HasNoLines held script names before now refusals.ScriptFailed = Rose before now
+HasNoLines held script names before now (refusals.Script fault) = ((fault ≡ faults.Memory) ⊎ IsFaulty held script names fault) × (now ≡ before)
+HasNoLines held script names before now refusals.Memory = Unit {0}
+HasNoLines held script names before now _ = ⊥
+
+-- the first file gives tables, and the script has no lines
+abbrev pub HasTablesAlone : Held → List ℕ → List ℕ → ℕ → ℕ → Refusal → Type 0
+HasTablesAlone held spec script before now refusal = (a : Arrays) × Gives held spec a × HasNoLines held script (names_in a) before now refusal
+
+-- why no lines are due, before anything is written; the script is looked at where the first file gives tables
 abbrev pub Refuses : Held → List (List ℕ) → ℕ → ℕ → Refusal → Type 0
-Refuses held words before now refusals.Usage = AreNoWords words × (now ≡ before)
-Refuses held words before now (refusals.Source s) = (spec script : List ℕ) × AreWords words spec script × RefusesSource held spec before now s
-Refuses held words before now refusals.NoScript =
-    (spec script : List ℕ) × AreWords words spec script × (source : Spec) × HasSource held spec source × Lacks held script × (now ≡ before)
-Refuses held words before now refusals.ScriptFailed =
-    (spec script : List ℕ) × AreWords words spec script × (source : Spec) × HasSource held spec source × Rose before now
-Refuses held words before now (refusals.BadLine line) =
-    (spec script : List ℕ) × AreWords words spec script × (source : Spec) × HasSource held spec source
-    × (text : List ℕ) × Reads held script text × IsFirstBad text line × (now ≡ before)
-Refuses held words before now refusals.OutputFailed = ⊥
-Refuses held words before now refusals.Memory = Unit {0}
+Refuses held words before now refusal =
+    (AreNoWords words × (refusal ≡ refusals.Usage) × (now ≡ before))
+    ⊎ ((spec script : List ℕ) × AreWords words spec script
+    × (HasNoTables held spec before now refusal ⊎ HasTablesAlone held spec script before now refusal))
 
 -- nothing was written, since no lines are due
 abbrev pub IsRefused : Outside → List (List ℕ) → Refusal → Type 0
@@ -143,24 +178,37 @@ Ends o words (Ok done) = IsDone o words × IsFaultless o
 Ends o words (Err refusals.OutputFailed) = IsCut o words × Rose o.output_before o.output × (o.store ≡ o.store_before)
 Ends o words (Err refusal) = IsRefused o words refusal
 
--- how a replay of this script is to end
-abbrev pub DueByScript : Held → List ℕ → Result (Unit {0}) Refusal → Type 0
-DueByScript held script end =
+-- how a replay of this script on tables with these names is to end
+abbrev pub DueByScript : Held → List ℕ → Names → Result (Unit {0}) Refusal → Type 0
+DueByScript held script names end =
     (Lacks held script × (end ≡ Err refusals.NoScript))
-    ⊎ ((text : List ℕ) × (line : ℕ) × Reads held script text × IsFirstBad text line × (end ≡ Err (refusals.BadLine line)))
-    ⊎ ((lines : List Line) × HasScript held script lines × (end ≡ Ok tt))
+    ⊎ ((fault : ScriptFault) × IsFaulty held script names fault × (end ≡ Err (refusals.Script fault)))
+    ⊎ ((lines : List Line) × HasScript held script names lines × (end ≡ Ok tt))
 
--- how a replay of this source, and then of this script, is to end where the store fails at no file
+-- how a replay of this source, and then of this script, is to end where the store fails at no file. The script is judged by
+-- the names of tables that are made for the source, whichever they are
 abbrev pub DueBySource : Held → List ℕ → List ℕ → Result (Unit {0}) Refusal → Type 0
 DueBySource held spec script end =
     ((s : Stop) × Stops ⊥ held spec s × (end ≡ Err (refusals.Source s)))
-    ⊎ ((source : Spec) × HasSource held spec source × DueByScript held script end)
+    ⊎ ((source : Spec) × HasSource held spec source × ((a : Arrays) → IsMadeFor source a → DueByScript held script (names_in a) end))
 
--- how a replay of these words is to end: the words are looked at first, then the source, then the script
+-- the same of this printed file. Which line or element is told of a section that is not right is not among these
+abbrev pub DueByPrinted : Held → List ℕ → List ℕ → Result (Unit {0}) Refusal → Type 0
+DueByPrinted held spec script end =
+    (Lacks held spec × (end ≡ Err refusals.NoPrinted))
+    ⊎ ((text : List ℕ) × Reads held spec text × HasNone None text × (end ≡ Err (refusals.Section marks.NoSection)))
+    ⊎ ((text : List ℕ) × Reads held spec text × (a : Arrays) × IsSection text a × DueByScript held script (names_in a) end)
+
+-- the same of the file that the first word names
+abbrev pub DueByFile : Held → List ℕ → List ℕ → Result (Unit {0}) Refusal → Type 0
+DueByFile held spec script end =
+    ((is_printed spec ≡ false) × DueBySource held spec script end) ⊎ ((is_printed spec ≡ true) × DueByPrinted held spec script end)
+
+-- how a replay of these words is to end: the words are looked at first, then the source or the printed file, then the script
 abbrev pub Due : Held → List (List ℕ) → Result (Unit {0}) Refusal → Type 0
 Due held words end =
     (AreNoWords words × (end ≡ Err refusals.Usage))
-    ⊎ ((spec script : List ℕ) × AreWords words spec script × DueBySource held spec script end)
+    ⊎ ((spec script : List ℕ) × AreWords words spec script × DueByFile held spec script end)
 
 -- the store tells what it holds, and no count of faults rose
 pub record HasNoFault (o : Outside) : Type 0 where
@@ -177,30 +225,52 @@ status_by (stop.Limit limit file) = statuses.Limit
 status_by (stop.Missing file) = statuses.Outside
 status_by (stop.StoreFailed file) = statuses.Outside
 
+-- the status of a section that is not right
+abbrev pub status_by_section : TableFault → Status
+status_by_section marks.Memory = statuses.Memory
+status_by_section _ = statuses.Tables
+
+-- the status of a script with a fault
+abbrev pub status_by_script : ScriptFault → Status
+status_by_script faults.Memory = statuses.Memory
+status_by_script _ = statuses.Script
+
 -- the status of an end
 abbrev pub status_of : {T : Type 0} → Result T Refusal → Status
 status_of (Ok done) = statuses.Done
 status_of (Err refusals.Usage) = statuses.Usage
 status_of (Err (refusals.Source s)) = status_by s
+status_of (Err refusals.NoPrinted) = statuses.Outside
+status_of (Err refusals.PrintedFailed) = statuses.Outside
+status_of (Err (refusals.Section fault)) = status_by_section fault
 status_of (Err refusals.NoScript) = statuses.Outside
 status_of (Err refusals.ScriptFailed) = statuses.Outside
-status_of (Err (refusals.BadLine line)) = statuses.Script
+status_of (Err (refusals.Script fault)) = status_by_script fault
 status_of (Err refusals.OutputFailed) = statuses.Outside
 status_of (Err refusals.Memory) = statuses.Memory
 
--- the source is refused so; where the count of the store's faults did not rise, the store failed at no file
+-- the first file is a source that is refused so; where the count of the store's faults did not rise, the store failed at no
+-- file
 abbrev pub IsStoppedBy : Outside → List ℕ → Stop → Type 0
-IsStoppedBy o spec s = Stops (Rose o.store_before o.store) o.held spec s
+IsStoppedBy o spec s = (is_printed spec ≡ false) × Stops (Rose o.store_before o.store) o.held spec s
+
+-- the first file gives tables with whose names the script has a fault
+abbrev pub IsFaultyScript : Outside → List ℕ → List ℕ → Type 0
+IsFaultyScript o spec script = (a : Arrays) × Gives o.held spec a × (fault : ScriptFault) × IsFaulty o.held script (names_in a) fault
+
+-- a file is missing: one of the source's, the printed file, or the script
+abbrev pub IsMissing : Outside → List ℕ → List ℕ → Type 0
+IsMissing o spec script = ((file : List ℕ) × IsStoppedBy o spec (stop.Missing file)) ⊎ ((is_printed spec ≡ true) × Lacks o.held spec) ⊎ Lacks o.held script
 
 -- why a replay has its status
 abbrev pub HasCause : Outside → List (List ℕ) → Status → Type 0
 HasCause o words statuses.Done = IsDone o words × IsFaultless o
 HasCause o words statuses.Usage = AreNoWords words
 HasCause o words statuses.Source = (spec script : List ℕ) × AreWords words spec script × (fault : Fault) × (file : List ℕ) × IsStoppedBy o spec (stop.Fault fault file)
-HasCause o words statuses.Script = (spec script : List ℕ) × AreWords words spec script × (text : List ℕ) × Reads o.held script text × (line : ℕ) × IsFirstBad text line
+HasCause o words statuses.Script = (spec script : List ℕ) × AreWords words spec script × IsFaultyScript o spec script
 HasCause o words statuses.Outside =
     Rose o.store_before o.store ⊎ Rose o.output_before o.output
-    ⊎ ((spec script : List ℕ) × AreWords words spec script × (((file : List ℕ) × IsStoppedBy o spec (stop.Missing file)) ⊎ Lacks o.held script))
+    ⊎ ((spec script : List ℕ) × AreWords words spec script × IsMissing o spec script)
 HasCause o words statuses.Memory = Unit {0}
 HasCause o words statuses.Limit = (spec script : List ℕ) × AreWords words spec script × (limit : Limit) × (file : List ℕ) × IsStoppedBy o spec (stop.Limit limit file)
-HasCause o words statuses.Tables = ⊥
+HasCause o words statuses.Tables = (spec script : List ℕ) × AreWords words spec script × (is_printed spec ≡ true) × (fault : TableFault) × IsMisspelled o.held spec fault

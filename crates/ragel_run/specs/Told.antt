@@ -1,5 +1,5 @@
 -- What is told of a replay's end, and when it is (this profile).
-use Rattle.std.specs.Prelude.{◌≡◌, ◌⊎◌, ℕ, List, [], ◌∷◌, ◌++◌, Option, Result, Ok, Err, codes, decimal}
+use Rattle.std.specs.Prelude.{◌≡◌, ◌⊎◌, ℕ, List, [], ◌++◌, Option, Result, Ok, Err, slice_get, unwrap_or, codes, decimal}
 use Rattle.rl_types.specs.declared.faults.FaultKind.{FaultKind}
 use Rattle.rl_types.specs.declared.faults.FaultKind.TheVariants as f
 use Rattle.rl_types.specs.declared.faults.LimitKind.{LimitKind}
@@ -8,6 +8,11 @@ use Rattle.rl_types.specs.declared.numbers.Place.{Place}
 use Rattle.rl_types.specs.declared.status.Status.{Status}
 use Rattle.rl_types.specs.declared.status.Status.TheVariants as statuses
 use Rattle.rl_io.specs.Outside.{Rose, Appends, AppendsPrefix}
+use Rattle.rl_arrays.specs.Section.{word}
+use Rattle.rl_cread.specs.declared.fault.TableFault.{TableFault}
+use Rattle.rl_cread.specs.declared.fault.TableFault.TheVariants as marks
+use Rattle.rl_replay.specs.declared.script.ScriptFault.{ScriptFault}
+use Rattle.rl_replay.specs.declared.script.ScriptFault.TheVariants as faults
 use Rattle.rl_includes.specs.declared.unrolled.Stop.{Stop}
 use Rattle.rl_includes.specs.declared.unrolled.Stop.TheVariants as stop
 use Rattle.ragel_run.specs.Replay.{Outside, Ends, Due, HasNoFault, status_of}
@@ -63,26 +68,48 @@ told_by (stop.Limit limit file) = told_at file limit.place (words_of_limit limit
 told_by (stop.Missing file) = file ++ codes ": missing\n"
 told_by (stop.StoreFailed file) = file ++ codes ": store failed\n"
 
--- the line on the error output, by the script's name
-abbrev pub told : {T : Type 0} → List ℕ → Result T Refusal → List ℕ
-told script (Ok done) = []
-told script (Err refusals.Usage) = codes "usage\n"
-told script (Err (refusals.Source s)) = told_by s
-told script (Err refusals.NoScript) = script ++ codes ": missing\n"
-told script (Err refusals.ScriptFailed) = script ++ codes ": store failed\n"
-told script (Err (refusals.BadLine line)) = script ++ codes ":" ++ decimal line ++ codes ": bad line\n"
-told script (Err refusals.OutputFailed) = codes "output failed\n"
-told script (Err refusals.Memory) = codes "out of memory\n"
+-- what is wrong in a line of a file
+abbrev pub told_in_line : List ℕ → ℕ → List ℕ → List ℕ
+told_in_line file line words = file ++ codes ":" ++ decimal line ++ codes ": " ++ words ++ codes "\n"
 
--- the second word, or the empty one
-abbrev pub second_word : List (List ℕ) → List ℕ
-second_word [] = []
-second_word (word ∷ []) = []
-second_word (word ∷ other ∷ words) = other
+-- the line that a section which is not right is told by
+abbrev pub told_section : List ℕ → TableFault → List ℕ
+told_section file marks.NoSection = file ++ codes ": no section\n"
+told_section file (marks.BadText line) = told_in_line file line (codes "bad text")
+told_section file (marks.BadValue bad) = file ++ codes ": bad value in " ++ word bad.array ++ codes " at " ++ decimal bad.index ++ codes "\n"
+told_section file marks.Memory = codes "out of memory\n"
 
--- the line that a replay's end is told by, for these words
+-- the line that a fault of a script is told by
+abbrev pub told_script : List ℕ → ScriptFault → List ℕ
+told_script file (faults.BadLine line) = told_in_line file line (codes "bad line")
+told_script file (faults.Twice line) = told_in_line file line (codes "twice")
+told_script file (faults.NoSession line) = told_in_line file line (codes "no session")
+told_script file (faults.NoEntry line) = told_in_line file line (codes "no entry")
+told_script file (faults.NoName line) = told_in_line file line (codes "no name")
+told_script file (faults.Full line) = told_in_line file line (codes "full")
+told_script file faults.Memory = codes "out of memory\n"
+
+-- the line that a refusal is told by, with the names of the two files
+abbrev pub told_refusal : List ℕ → List ℕ → Refusal → List ℕ
+told_refusal spec script refusals.Usage = codes "usage\n"
+told_refusal spec script (refusals.Source s) = told_by s
+told_refusal spec script refusals.NoPrinted = spec ++ codes ": missing\n"
+told_refusal spec script refusals.PrintedFailed = spec ++ codes ": store failed\n"
+told_refusal spec script (refusals.Section fault) = told_section spec fault
+told_refusal spec script refusals.NoScript = script ++ codes ": missing\n"
+told_refusal spec script refusals.ScriptFailed = script ++ codes ": store failed\n"
+told_refusal spec script (refusals.Script fault) = told_script script fault
+told_refusal spec script refusals.OutputFailed = codes "output failed\n"
+told_refusal spec script refusals.Memory = codes "out of memory\n"
+
+-- the word at a place; the empty one where there is none
+abbrev pub word_at : List (List ℕ) → ℕ → List ℕ
+word_at words place = unwrap_or (slice_get words place) []
+
+-- the line on the error output, for these words
 abbrev pub line_of : {T : Type 0} → List (List ℕ) → Result T Refusal → List ℕ
-line_of words end = told (second_word words) end
+line_of words (Ok done) = []
+line_of words (Err refusal) = told_refusal (word_at words 0) (word_at words 1) refusal
 
 -- the error output gains the line; where it failed it gains a prefix, where memory was wanting nothing
 abbrev pub Tells : Option (List ℕ) → Option (List ℕ) → ℕ → ℕ → List ℕ → Type 0

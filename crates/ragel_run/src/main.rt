@@ -1,17 +1,15 @@
-//! The program `ragel-run`: it replays a script on a source, and prints each call of the machine's actions.
+//! The program `ragel-run`: it replays a script on a source or on printed tables, and prints each call of the machine's
+//! actions.
 #![tactic(auto)]
 
-mod lines;
-mod log;
-mod names;
 mod outside;
 mod refusal;
 mod replay;
-mod session;
+mod section;
 mod source;
+mod tables;
 #[cfg(test)]
 mod tests;
-mod to_end;
 mod told;
 
 pub use refusal::Refusal;

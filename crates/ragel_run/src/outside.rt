@@ -1,20 +1,41 @@
 // The script of a replay, and its output.
-ghost use Rattle.std.specs.Prelude.{◌≡◌};
-ghost use Rattle.ragel_run.specs.Reads.{ReadsScript, WritesLines};
+ghost use Rattle.std.specs.Prelude.{◌≡◌, ◌≤◌, ◌<◌, ◌^◌, IfOk, IfErr, Ok, length};
+ghost use Rattle.rl_replay.specs.Sessions.{fed, script_of};
+ghost use Rattle.rl_script.specs.TableNames.{names_in};
+ghost use Rattle.ragel_run.specs.Reads.{IsNoScript, ReadsScript, WritesLines};
 
 use crate::refusal::Refusal;
 use rl_io::{Sink, SinkFault, Store, StoreFault};
-use rl_replay::ScriptFault;
-use rl_script::{OneSession, read_one_session};
+use rl_replay::{Script, ScriptFault};
+use rl_script::{admit, read_script};
+use rl_tables::Tables;
 use std::alloc::Global;
 
+// The script that a text is, where tables have their names.
+fn script_for(alloc: Global, text: &[u8], tables: &Tables) -> Result<Script, ScriptFault>
+    ensures found { IfOk result (λ s. script_of (names_in tables.now) text.now ≡ Ok s.lines) }
+    ensures small { IfOk result (λ s. length (fed s.lines) ≤ length text.now) }
+    ensures fault { IfErr result (IsNoScript (names_in tables.now) text.now) }
+{
+    let script = match read_script(alloc, text) {
+        Ok(script) => script,
+        Err(fault) => return Err(fault),
+    };
+    match admit(alloc, &script, tables) {
+        Ok(()) => Ok(script),
+        Err(fault) => Err(fault),
+    }
+}
+
 // The script under a name.
-pub fn read_script<S: Store>(
+pub fn script_under<S: Store>(
     alloc: Global,
     name: &str,
+    tables: &Tables,
     store: &mut S,
-) -> Result<OneSession, Refusal>
-    ensures reads { ReadsScript (S.held store.old) name.now (S.faults store.old) (S.faults store.new) result }
+) -> Result<Script, Refusal>
+    ensures reads { ReadsScript (S.held store.old) name.now (names_in tables.now) (S.faults store.old) (S.faults store.new) result }
+    ensures small { IfOk result (λ s. length (fed s.lines) < 2 ^ 63) }
     ensures same { S.held store.new ≡ S.held store.old }
 {
     let text = match store.read(name) {
@@ -23,10 +44,9 @@ pub fn read_script<S: Store>(
         Err(StoreFault::Failed) => return Err(Refusal::ScriptFailed),
         Err(StoreFault::Memory) => return Err(Refusal::Memory),
     };
-    match read_one_session(alloc, &text) {
-        Ok(one) => Ok(one),
-        Err(ScriptFault::BadLine { line }) => Err(Refusal::BadLine(line)),
-        Err(_) => Err(Refusal::Memory),
+    match script_for(alloc, &text, tables) {
+        Ok(script) => Ok(script),
+        Err(fault) => Err(Refusal::Script(fault)),
     }
 }
 

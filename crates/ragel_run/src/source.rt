@@ -7,7 +7,8 @@ ghost use Rattle.rl_resolve.specs.Refusals.{file_name};
 ghost use Rattle.rl_resolve.specs.declared.answer.Runs.TheVariants as runs;
 ghost use Rattle.rl_includes.specs.declared.unrolled.Stop.TheVariants as stop;
 ghost use Rattle.ragel_run.specs.declared.refusal.Refusal.TheVariants as refusals;
-ghost use Rattle.ragel_run.specs.Reads.{HasNoTables, IsMadeFor, ReadsSource, ReadsSpecs, ReadsTrees, TellsNode, refusal_by_names, refusal_by_text};
+ghost use Rattle.ragel_run.specs.Files.{IsMadeFor};
+ghost use Rattle.ragel_run.specs.Reads.{IsRefusedSpec, ReadsSource, ReadsSpecs, ReadsTrees, TellsNode, refusal_by_names, refusal_by_text};
 
 use crate::refusal::Refusal;
 use rl_files::read_file;
@@ -152,7 +153,7 @@ fn tables_for(alloc: Global, spec: &Spec) -> Result<Tables, Refusal>
     requires { HasForm spec.now }
     ensures buildable { IfOk result (λ _. IsBuildable spec.now) }
     ensures made { IfOk result (IsMadeFor spec.now) }
-    ensures refused { IfErr result (HasNoTables spec.now) }
+    ensures refused { IfErr result (IsRefusedSpec spec.now) }
 {
     match tables_of(alloc, spec) {
         Ok(tables) => Ok(tables),

@@ -536,30 +536,215 @@ const INCLUDED_NODE: Row = Row {
 const BAD_LINE: Row = Row {
     files: &[
         ("m.rl", "%%{ machine one; action x { } main := 'ab' $x; }%%"),
-        ("t", "end s\n"),
+        ("t", "opne s\n"),
     ],
     status: Status::Script,
     err: "t:1: bad line\n",
     ..EMPTY
 };
 
-const COMMENT: Row = Row {
+const NOT_OPEN: Row = Row {
     files: &[
         ("m.rl", "%%{ machine one; action x { } main := 'ab' $x; }%%"),
-        ("t", "open s\n# a comment\nend s\n"),
+        ("t", "piece s \"a\"\n"),
     ],
     status: Status::Script,
-    err: "t:2: bad line\n",
+    err: "t:1: no session\n",
+    ..EMPTY
+};
+
+const TWICE: Row = Row {
+    files: &[
+        ("m.rl", "%%{ machine one; action x { } main := 'ab' $x; }%%"),
+        ("t", "open s\nopen s\n"),
+    ],
+    status: Status::Script,
+    err: "t:2: twice\n",
+    ..EMPTY
+};
+
+const NO_ENTRY: Row = Row {
+    files: &[
+        ("m.rl", "%%{ machine one; action x { } main := 'ab' $x; }%%"),
+        ("t", "# a comment\nopen s nowhere\n"),
+    ],
+    status: Status::Script,
+    err: "t:2: no entry\n",
+    ..EMPTY
+};
+
+const NO_NAME: Row = Row {
+    files: &[
+        ("m.rl", "%%{ machine one; action x { } main := 'ab' $x; }%%"),
+        ("t", "open s\npick s y 1 -\n"),
+    ],
+    status: Status::Script,
+    err: "t:2: no name\n",
+    ..EMPTY
+};
+
+const NO_CONDITION: Row = Row {
+    files: &[
+        ("m.rl", "%%{ machine one; action x { } main := 'ab' $x; }%%"),
+        ("t", "say s x 1 yes\nopen s\n"),
+    ],
+    status: Status::Script,
+    err: "t:1: no name\n",
     ..EMPTY
 };
 
 const NO_END: Row = Row {
     files: &[
         ("m.rl", "%%{ machine one; action x { } main := 'ab' $x; }%%"),
-        ("t", "open s\npiece s \"a\"\n"),
+        ("t", "open s\npiece s \"ab\"\n"),
     ],
-    status: Status::Script,
-    err: "t:3: bad line\n",
+    out: "s do x 0\ns do x 1\ns left final 2\n",
+    ..EMPTY
+};
+
+const TURNS: Row = Row {
+    files: &[
+        ("m.rl", "%%{ machine one; action x { } main := 'ab' $x; }%%"),
+        (
+            "t",
+            "# two sessions\n\nopen s\nopen t main\npiece s \"a\"\npiece t \"x\"\npiece s \"b\"\nend t\nend s",
+        ),
+    ],
+    out: "s do x 0\nt stop error 0\ns do x 1\nt end error 0\ns end final 2\n",
+    ..EMPTY
+};
+
+const PICKED: Row = Row {
+    files: &[
+        ("m.rl", "%%{ machine one; action x { } main := 'ab' $x; }%%"),
+        ("t", "open s\npick s x 2 1\npiece s \"ab\"\npiece s \"c\"\n"),
+    ],
+    out: "s do x 0\ns do x 1 ?1\ns stop stray 2\ns left error 2\n",
+    ..EMPTY
+};
+
+const AT_ENTRY: Row = Row {
+    files: &[
+        ("m.rl", "%%{ machine m; main := 'a'; other := 'b'; }%%"),
+        ("t", "open s other\npiece s \"b\"\nend s\n"),
+    ],
+    out: "s end final 1\n",
+    ..EMPTY
+};
+
+// The section of the machine `one`, whose word is `ab` with the action `x` on each character.
+const SECTION: &str = "\
+/* rl-data 1 one */\n\
+static const int one_start = 1;\n\
+static const int one_first_final = 3;\n\
+static const int one_error = 0;\n\
+static const int one_alphabet = 0;\n\
+static const int one_en_main = 1;\n\
+static const int _one_actions[] = { 0, 1, 1 };\n\
+static const int _one_key_offsets[] = { 0, 0, 1, 2 };\n\
+static const long long _one_trans_keys[] = { 97, 98, 0 };\n\
+static const int _one_single_lengths[] = { 0, 1, 1, 0 };\n\
+static const int _one_range_lengths[] = { 0, 0, 0, 0 };\n\
+static const int _one_cell_offsets[] = { 0, 0, 1, 2 };\n\
+static const int _one_cell_asks[] = { 0, 0, 0 };\n\
+static const int _one_cell_entries[] = { 0, 1, 0 };\n\
+static const int _one_trans_targs[] = { 2, 3, 0 };\n\
+static const int _one_trans_lists[] = { 1, 1, 0 };\n\
+static const int _one_from_lists[] = { 0, 0, 0, 0 };\n\
+static const int _one_to_lists[] = { 0, 0, 0, 0 };\n\
+static const int _one_eof_lists[] = { 0, 0, 0, 0 };\n\
+static const int _one_error_lists[] = { 0, 0, 0, 0 };\n\
+static const int _one_accept_lists[] = { 0, 0, 0, 0 };\n\
+static const int _one_state_kinds[] = { 0, 0, 0, 0 };\n\
+static const int _one_homes[] = { 0, 0, 0, 0 };\n\
+static const char *const _one_action_names[] = { \"\", \"x\" };\n\
+static const int _one_stmt_firsts[] = { 0, 1 };\n\
+static const int _one_stmt_counts[] = { 0, 0 };\n\
+static const int _one_stmt_kinds[] = { 0 };\n\
+static const int _one_stmt_outer[] = { 0 };\n\
+static const int _one_stmt_args[] = { 0 };\n\
+static const int _one_stmt_bases[] = { 0 };\n\
+static const char *const _one_cond_names[] = { \"\" };\n\
+static const char *const _one_entry_names[] = { \"\", \"main\" };\n\
+static const int _one_entry_states[] = { 0, 1 };\n\
+/* rl-end one */\n\
+";
+
+// The same with a target that is no state.
+const SECTION_WITH_A_WRONG_TARGET: &str = "\
+/* rl-data 1 one */\n\
+static const int one_start = 1;\n\
+static const int one_first_final = 3;\n\
+static const int one_error = 0;\n\
+static const int one_alphabet = 0;\n\
+static const int one_en_main = 1;\n\
+static const int _one_actions[] = { 0, 1, 1 };\n\
+static const int _one_key_offsets[] = { 0, 0, 1, 2 };\n\
+static const long long _one_trans_keys[] = { 97, 98, 0 };\n\
+static const int _one_single_lengths[] = { 0, 1, 1, 0 };\n\
+static const int _one_range_lengths[] = { 0, 0, 0, 0 };\n\
+static const int _one_cell_offsets[] = { 0, 0, 1, 2 };\n\
+static const int _one_cell_asks[] = { 0, 0, 0 };\n\
+static const int _one_cell_entries[] = { 0, 1, 0 };\n\
+static const int _one_trans_targs[] = { 2, 4, 0 };\n\
+static const int _one_trans_lists[] = { 1, 1, 0 };\n\
+static const int _one_from_lists[] = { 0, 0, 0, 0 };\n\
+static const int _one_to_lists[] = { 0, 0, 0, 0 };\n\
+static const int _one_eof_lists[] = { 0, 0, 0, 0 };\n\
+static const int _one_error_lists[] = { 0, 0, 0, 0 };\n\
+static const int _one_accept_lists[] = { 0, 0, 0, 0 };\n\
+static const int _one_state_kinds[] = { 0, 0, 0, 0 };\n\
+static const int _one_homes[] = { 0, 0, 0, 0 };\n\
+static const char *const _one_action_names[] = { \"\", \"x\" };\n\
+static const int _one_stmt_firsts[] = { 0, 1 };\n\
+static const int _one_stmt_counts[] = { 0, 0 };\n\
+static const int _one_stmt_kinds[] = { 0 };\n\
+static const int _one_stmt_outer[] = { 0 };\n\
+static const int _one_stmt_args[] = { 0 };\n\
+static const int _one_stmt_bases[] = { 0 };\n\
+static const char *const _one_cond_names[] = { \"\" };\n\
+static const char *const _one_entry_names[] = { \"\", \"main\" };\n\
+static const int _one_entry_states[] = { 0, 1 };\n\
+/* rl-end one */\n\
+";
+
+const SPELLED: Row = Row {
+    files: &[("x.c", SECTION), ("t", "open s\npiece s \"ab\"\nend s\n")],
+    words: &["x.c", "t"],
+    out: "s do x 0\ns do x 1\ns end final 2\n",
+    ..EMPTY
+};
+
+const BAD_TEXT: Row = Row {
+    files: &[
+        (
+            "x.c",
+            "/* rl-data 1 one */\nstatic const int one_start = 1;\nstatic const int one_first_final = 3;\n",
+        ),
+        ("t", "open s\nend s\n"),
+    ],
+    words: &["x.c", "t"],
+    status: Status::Tables,
+    err: "x.c:4: bad text\n",
+    ..EMPTY
+};
+
+const BAD_VALUE: Row = Row {
+    files: &[
+        ("x.c", SECTION_WITH_A_WRONG_TARGET),
+        ("t", "open s\nend s\n"),
+    ],
+    words: &["x.c", "t"],
+    status: Status::Tables,
+    err: "x.c: bad value in trans_targs at 1\n",
+    ..EMPTY
+};
+
+const NO_SECTION: Row = Row {
+    files: &[("x.c", ""), ("t", "open s\nend s\n")],
+    words: &["x.c", "t"],
+    status: Status::Tables,
+    err: "x.c: no section\n",
     ..EMPTY
 };
 
@@ -619,14 +804,22 @@ const NO_WORDS: Row = Row {
     ..EMPTY
 };
 
-const PRINTED: Row = Row {
+const NO_PRINTED: Row = Row {
     files: &[
         ("m.rl", "%%{ machine one; action x { } main := 'ab' $x; }%%"),
-        ("t", "open s\npiece s \"ab\"\nend s\n"),
+        ("t", "open s\nend s\n"),
     ],
-    words: &["one.c", "t"],
-    status: Status::Usage,
-    err: "usage\n",
+    words: &["no.c", "t"],
+    status: Status::Outside,
+    err: "no.c: missing\n",
+    ..EMPTY
+};
+
+const PRINTED_FAILED: Row = Row {
+    words: &["no.c", "t"],
+    store_fails: 3,
+    status: Status::Outside,
+    err: "no.c: store failed\n",
     ..EMPTY
 };
 
@@ -675,16 +868,32 @@ const FILES: [&Row; 7] = [
     &INCLUDED_NODE,
 ];
 
-const FAILURES: [&Row; 9] = [
+const SCRIPTS: [&Row; 6] = [
     &BAD_LINE,
-    &COMMENT,
-    &NO_END,
+    &NOT_OPEN,
+    &TWICE,
+    &NO_ENTRY,
+    &NO_NAME,
+    &NO_CONDITION,
+];
+
+const SESSIONS: [&Row; 4] = [&NO_END, &TURNS, &PICKED, &AT_ENTRY];
+
+const SECTIONS: [&Row; 6] = [
+    &SPELLED,
+    &BAD_TEXT,
+    &BAD_VALUE,
+    &NO_SECTION,
+    &NO_PRINTED,
+    &PRINTED_FAILED,
+];
+
+const FAILURES: [&Row; 5] = [
     &MISSING,
     &NO_SCRIPT,
     &STORE_FAILED,
     &OUTPUT_FAILED,
     &NO_WORDS,
-    &PRINTED,
 ];
 
 // What a replay left.
@@ -770,6 +979,24 @@ fn faults_come(rt: HostRuntime) -> Result<(), Fail> {
 #[test]
 fn files_come(rt: HostRuntime) -> Result<(), Fail> {
     assert_eq!(rt; first_wrong(rt.alloc(), &FILES)?, None);
+    Ok(())
+}
+
+#[test]
+fn scripts_come(rt: HostRuntime) -> Result<(), Fail> {
+    assert_eq!(rt; first_wrong(rt.alloc(), &SCRIPTS)?, None);
+    Ok(())
+}
+
+#[test]
+fn sessions_come(rt: HostRuntime) -> Result<(), Fail> {
+    assert_eq!(rt; first_wrong(rt.alloc(), &SESSIONS)?, None);
+    Ok(())
+}
+
+#[test]
+fn sections_come(rt: HostRuntime) -> Result<(), Fail> {
+    assert_eq!(rt; first_wrong(rt.alloc(), &SECTIONS)?, None);
     Ok(())
 }
 

@@ -1,14 +1,57 @@
 // What is told of a replay's end.
 ghost use Rattle.std.specs.Prelude.{◌≡◌, ◌++◌, IfOk, OnOk, codes, decimal};
-ghost use Rattle.ragel_run.specs.Replay.{status_of};
-ghost use Rattle.ragel_run.specs.Told.{Tells, line_of, told, told_at, told_by, words_of_fault, words_of_limit, second_word as second_of};
+ghost use Rattle.rl_arrays.specs.Section.{word};
+ghost use Rattle.ragel_run.specs.Replay.{status_by, status_by_section, status_by_script, status_of};
+ghost use Rattle.ragel_run.specs.Told.{Tells, line_of, told_at, told_by, told_in_line, told_refusal, told_script, told_section, word_at as at_place, words_of_fault, words_of_limit};
 
 use crate::refusal::Refusal;
 use itoa::Buffer;
+use rl_arrays::{ArrayName, BadValue};
+use rl_cread::TableFault;
 use rl_includes::Stop;
 use rl_io::Sink;
+use rl_replay::ScriptFault;
 use rl_types::{FaultKind, LimitKind, Memory, Place, Status, Text};
 use std::alloc::{AllocError, Global};
+
+// The status of a refused source.
+fn status_of_stop(stop: &Stop) -> Status
+    ensures { result ≡ status_by stop.now }
+{
+    match stop {
+        Stop::Fault(_, _) => Status::Source,
+        Stop::Limit(_, _) => Status::Limit,
+        Stop::Missing(_) => Status::Outside,
+        Stop::StoreFailed(_) => Status::Outside,
+    }
+}
+
+// The status of a section that is not right.
+fn status_of_section(fault: &TableFault) -> Status
+    ensures { result ≡ status_by_section fault.now }
+{
+    match fault {
+        TableFault::NoSection => Status::Tables,
+        TableFault::BadText { .. } => Status::Tables,
+        TableFault::BadValue(_) => Status::Tables,
+        TableFault::Memory => Status::Memory,
+    }
+}
+
+// The status of a script with a fault.
+fn status_of_script(fault: &ScriptFault) -> Status
+    ensures { result ≡ status_by_script fault.now }
+{
+    match fault {
+        ScriptFault::BadLine { .. } => Status::Script,
+        ScriptFault::Twice { .. } => Status::Script,
+        ScriptFault::NoSession { .. } => Status::Script,
+        ScriptFault::NoEntry { .. } => Status::Script,
+        ScriptFault::NoName { .. } => Status::Script,
+        ScriptFault::Full { .. } => Status::Script,
+        ScriptFault::Memory => Status::Memory,
+    }
+}
 
 // The status of an end.
 pub fn status_for(end: &Result<(), Refusal>) -> Status
@@ -17,22 +60,25 @@ pub fn status_for(end: &Result<(), Refusal>) -> Status
     match end {
         Ok(()) => Status::Done,
         Err(Refusal::Usage) => Status::Usage,
-        Err(Refusal::Source(Stop::Fault(_, _))) => Status::Source,
-        Err(Refusal::Source(Stop::Limit(_, _))) => Status::Limit,
-        Err(Refusal::Source(Stop::Missing(_) | Stop::StoreFailed(_))) => Status::Outside,
-        Err(Refusal::BadLine(_)) => Status::Script,
+        Err(Refusal::Source(stop)) => status_of_stop(stop),
+        Err(Refusal::NoPrinted) => Status::Outside,
+        Err(Refusal::PrintedFailed) => Status::Outside,
+        Err(Refusal::Section(fault)) => status_of_section(fault),
+        Err(Refusal::NoScript) => Status::Outside,
+        Err(Refusal::ScriptFailed) => Status::Outside,
+        Err(Refusal::Script(fault)) => status_of_script(fault),
+        Err(Refusal::OutputFailed) => Status::Outside,
         Err(Refusal::Memory) => Status::Memory,
-        Err(Refusal::NoScript | Refusal::ScriptFailed | Refusal::OutputFailed) => Status::Outside,
     }
 }
 
-// The second word, or the empty one.
-fn second_word(words: &[Text]) -> &[u8]
-    ensures { result.now ≡ second_of words.now }
+// The word at a place, or the empty one.
+fn word_at(words: &[Text], place: usize) -> &[u8]
+    ensures { result.now ≡ at_place words.now place }
 {
-    match words {
-        [_, second, ..] => second.as_str().as_bytes(),
-        _ => b"",
+    match words.get(place) {
+        Some(word) => word.as_str().as_bytes(),
+        None => b"",
     }
 }
 
@@ -44,12 +90,13 @@ fn push_both(text: &mut Vec<u8>, first: &[u8], second: &[u8]) -> Result<(), Allo
     text.extend_from_slice(second)
 }
 
-// The line of a bad line of a script.
-fn push_bad_line(text: &mut Vec<u8>, script: &[u8], line: u64) -> Result<(), AllocError>
-    ensures { OnOk result (text.new.items ≡ text.old.items ++ script.now ++ codes ":" ++ decimal line ++ codes ": bad line\n") }
+// What is wrong in a line of a file.
+fn push_in_line(text: &mut Vec<u8>, name: &[u8], line: u64, words: &[u8]) -> Result<(), AllocError>
+    ensures { OnOk result (text.new.items ≡ text.old.items ++ told_in_line name.now line words.now) }
 {
-    push_both(text, script, b":")?;
-    push_both(text, Buffer::new().format(line).as_bytes(), b": bad line\n")
+    push_both(text, name, b":")?;
+    push_both(text, Buffer::new().format(line).as_bytes(), b": ")?;
+    push_both(text, words, b"\n")
 }
 
 // The number of a fault, and what it is.
@@ -134,19 +181,97 @@ fn push_stop(text: &mut Vec<u8>, stop: &Stop) -> Result<(), AllocError>
     }
 }
 
-// The line that an end is told by, with the script's name.
-fn push_line(text: &mut Vec<u8>, script: &[u8], end: &Result<(), Refusal>) -> Result<(), AllocError>
-    ensures { OnOk result (text.new.items ≡ text.old.items ++ told script.now end.now) }
+// An array's name, as it is printed.
+fn array_word(array: ArrayName) -> &'static [u8]
+    ensures { result.now ≡ word array }
 {
-    match end {
-        Ok(()) => Ok(()),
-        Err(Refusal::Usage) => text.extend_from_slice(b"usage\n"),
-        Err(Refusal::Source(stop)) => push_stop(text, stop),
-        Err(Refusal::NoScript) => push_both(text, script, b": missing\n"),
-        Err(Refusal::ScriptFailed) => push_both(text, script, b": store failed\n"),
-        Err(Refusal::BadLine(line)) => push_bad_line(text, script, *line),
-        Err(Refusal::OutputFailed) => text.extend_from_slice(b"output failed\n"),
-        Err(Refusal::Memory) => text.extend_from_slice(b"out of memory\n"),
+    match array {
+        ArrayName::Actions => b"actions",
+        ArrayName::KeyOffsets => b"key_offsets",
+        ArrayName::TransKeys => b"trans_keys",
+        ArrayName::SingleLengths => b"single_lengths",
+        ArrayName::RangeLengths => b"range_lengths",
+        ArrayName::CellOffsets => b"cell_offsets",
+        ArrayName::CellAsks => b"cell_asks",
+        ArrayName::CellEntries => b"cell_entries",
+        ArrayName::TransTargs => b"trans_targs",
+        ArrayName::TransLists => b"trans_lists",
+        ArrayName::FromLists => b"from_lists",
+        ArrayName::ToLists => b"to_lists",
+        ArrayName::EofLists => b"eof_lists",
+        ArrayName::ErrorLists => b"error_lists",
+        ArrayName::AcceptLists => b"accept_lists",
+        ArrayName::StateKinds => b"state_kinds",
+        ArrayName::Homes => b"homes",
+        ArrayName::ActionNames => b"action_names",
+        ArrayName::StmtFirsts => b"stmt_firsts",
+        ArrayName::StmtCounts => b"stmt_counts",
+        ArrayName::StmtKinds => b"stmt_kinds",
+        ArrayName::StmtOuter => b"stmt_outer",
+        ArrayName::StmtArgs => b"stmt_args",
+        ArrayName::StmtBases => b"stmt_bases",
+        ArrayName::CondNames => b"cond_names",
+        ArrayName::EntryNames => b"entry_names",
+        ArrayName::EntryStates => b"entry_states",
+    }
+}
+
+// The line of an element that is not right.
+fn push_bad_value(text: &mut Vec<u8>, name: &[u8], bad: BadValue) -> Result<(), AllocError>
+    ensures { OnOk result (text.new.items ≡ text.old.items ++ name.now ++ codes ": bad value in " ++ word bad.array ++ codes " at " ++ decimal bad.index ++ codes "\n") }
+{
+    push_both(text, name, b": bad value in ")?;
+    push_both(text, array_word(bad.array), b" at ")?;
+    push_both(text, Buffer::new().format(bad.index).as_bytes(), b"\n")
+}
+
+// The line that a section which is not right is told by.
+fn push_section(text: &mut Vec<u8>, name: &[u8], fault: &TableFault) -> Result<(), AllocError>
+    ensures { OnOk result (text.new.items ≡ text.old.items ++ told_section name.now fault.now) }
+{
+    match fault {
+        TableFault::NoSection => push_both(text, name, b": no section\n"),
+        TableFault::BadText { line } => push_in_line(text, name, *line, b"bad text"),
+        TableFault::BadValue(bad) => push_bad_value(text, name, *bad),
+        TableFault::Memory => text.extend_from_slice(b"out of memory\n"),
+    }
+}
+
+// The line that a fault of a script is told by.
+fn push_script(text: &mut Vec<u8>, name: &[u8], fault: &ScriptFault) -> Result<(), AllocError>
+    ensures { OnOk result (text.new.items ≡ text.old.items ++ told_script name.now fault.now) }
+{
+    match fault {
+        ScriptFault::BadLine { line } => push_in_line(text, name, *line, b"bad line"),
+        ScriptFault::Twice { line } => push_in_line(text, name, *line, b"twice"),
+        ScriptFault::NoSession { line } => push_in_line(text, name, *line, b"no session"),
+        ScriptFault::NoEntry { line } => push_in_line(text, name, *line, b"no entry"),
+        ScriptFault::NoName { line } => push_in_line(text, name, *line, b"no name"),
+        ScriptFault::Full { line } => push_in_line(text, name, *line, b"full"),
+        ScriptFault::Memory => text.extend_from_slice(b"out of memory\n"),
+    }
+}
+
+// The line that a refusal is told by, with the names of the two files.
+fn push_refusal(
+    text: &mut Vec<u8>,
+    spec: &[u8],
+    script: &[u8],
+    refusal: &Refusal,
+) -> Result<(), AllocError>
+    ensures { OnOk result (text.new.items ≡ text.old.items ++ told_refusal spec.now script.now refusal.now) }
+{
+    match refusal {
+        Refusal::Usage => text.extend_from_slice(b"usage\n"),
+        Refusal::Source(stop) => push_stop(text, stop),
+        Refusal::NoPrinted => push_both(text, spec, b": missing\n"),
+        Refusal::PrintedFailed => push_both(text, spec, b": store failed\n"),
+        Refusal::Section(fault) => push_section(text, spec, fault),
+        Refusal::NoScript => push_both(text, script, b": missing\n"),
+        Refusal::ScriptFailed => push_both(text, script, b": store failed\n"),
+        Refusal::Script(fault) => push_script(text, script, fault),
+        Refusal::OutputFailed => text.extend_from_slice(b"output failed\n"),
+        Refusal::Memory => text.extend_from_slice(b"out of memory\n"),
     }
 }
 
@@ -155,7 +280,11 @@ fn line_for(alloc: Global, words: &[Text], end: &Result<(), Refusal>) -> Result<
     ensures { IfOk result (λ v. v.items ≡ line_of words.now end.now) }
 {
     let mut text = Vec::new(alloc);
-    match push_line(&mut text, second_word(words), end) {
+    let pushed = match end {
+        Ok(()) => Ok(()),
+        Err(refusal) => push_refusal(&mut text, word_at(words, 0), word_at(words, 1), refusal),
+    };
+    match pushed {
         Ok(()) => Ok(text),
         Err(_) => Err(Memory),
     }

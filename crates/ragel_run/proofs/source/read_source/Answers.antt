@@ -1,8 +1,8 @@
-use Rattle.ragel_run.proofs.ReadLaws.{first_is, first_formed, source_by_specs, source_read}
+use Rattle.ragel_run.proofs.ReadLaws.{first_is, first_formed, source_read}
 use Rattle.ragel_run.proofs.source.read_source.Goals as goal
 
 pub returns-in-Err-clause-reads : goal.returns-in-Err-clause-reads
-returns-in-Err-clause-reads g c = source_by_specs _ _ _ _ _ c.in-Err.ensures.reads
+returns-in-Err-clause-reads g c = c.in-Err.ensures.reads
 
 pub tables_for-requires : goal.tables_for-requires
 tables_for-requires g c =
