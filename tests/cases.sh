@@ -3,13 +3,11 @@
 #
 #   tests/cases.sh [GROUP ..]
 #
-# The groups that are built whole, 01-one-literal and 01-several-literals, are run by check.py of the cases, and have to pass.
-# Of each other group (03-names, 04-operators, 05-actions, 06-priorities, 07-state-actions) every case is run. One that gives
-# what it must is good. One that does not is
+# The groups that are built whole, 01-one-literal, 01-several-literals, 04-operators, 05-actions and 06-priorities, are run by
+# check.py of the cases, and have to pass. Of each other group (03-names, 07-state-actions, 11-sessions, 13-sections) every case
+# is run. One that gives what it must is good. One that does not is
 #   not built   where it is refused with F20, and `when`, a scanner or a word of action code that steers the run stands in its
 #               source, or in a file that it includes: these are named, with what was found there
-#   not read    where its words or its script have not the form of today: two words of which the first does not end in `.c`,
-#               and a script that opens one session, gives it pieces and ends it
 #   wrong       else: these are named, with their first line on the error output or of the output
 # The status is 1 where a case is wrong or check.py fails, and 0 where none is or nothing could be run.
 . "$(dirname "${BASH_SOURCE[0]}")/common.sh"
@@ -21,34 +19,14 @@ wrong=0
 find_unbuilt() {
   local word
   found=
-  for word in $(sed 's@/\*[^*]*\*/@@g' "$1"/*.rl | grep -owE 'when|fgoto|fcall|fret|fhold|fexec|fnext|fbreak|fpc|fc|fentry|fcurs|ftargs' | sort -u); do
+  for word in $(sed 's@/\*[^*]*\*/@@g' "$1"/*.rl | grep -owE 'when|fgoto|fcall|fret|fhold|fexec|fnext|fbreak|fentry|fcurs|ftargs' | sort -u); do
     found+="${found:+, }$word"
   done
   ! grep -qF '|*' "$1"/*.rl || found+="${found:+, }scanner"
 }
 
-# Whether the words of a case are read today.
-has_words() {
-  local first second more
-  { IFS= read -r first && IFS= read -r second; ! IFS= read -r more; } <"$1/words"
-  [ -n "${second:-}" ] && [[ $first != *.c ]] && script=$1/$second
-}
-
-# Whether a script is read today.
-has_script() {
-  local text name= ended=
-  while IFS= read -r text || [ -n "$text" ]; do
-    case ${name:+open}$ended in
-      '') [[ $text =~ ^open\ ([A-Za-z0-9_-]+)$ ]] || return 1; name=${BASH_REMATCH[1]} ;;
-      open) if [ "$text" = "end $name" ]; then ended=ended; elif [[ $text != "piece $name "* ]]; then return 1; fi ;;
-      *) return 1 ;;
-    esac
-  done <"$1"
-  [ -n "$ended" ]
-}
-
 run_group() {
-  local folder good=0 all=0 unread=0 unbuilt=0 names= got
+  local folder good=0 all=0 unbuilt=0 names= got
   for folder in "$cases/$1"/*/; do
     folder=${folder%/}
     is_case "$folder" || continue
@@ -61,9 +39,7 @@ run_group() {
     first_line "$work/err"
     got=$line
     find_unbuilt "$folder"
-    if ! has_words "$folder" || { [ "$status" = 7 ] && ! has_script "$script"; }; then
-      unread=$((unread + 1))
-    elif [[ $got = *': F20 not yet' ]] && [ -n "$found" ]; then
+    if [[ $got = *': F20 not yet' ]] && [ -n "$found" ]; then
       unbuilt=$((unbuilt + 1))
       names+=" ${folder##*/} ($found)"
     else
@@ -72,16 +48,17 @@ run_group() {
       wrong=1
     fi
   done
-  say "$1: $good of $all are good, $unread are not read, $unbuilt are not built${names:+:$names}"
+  say "$1: $good of $all are good, $unbuilt are not built${names:+:$names}"
 }
 
+whole=(01-one-literal 01-several-literals 04-operators 05-actions 06-priorities)
 if [ $# -eq 0 ]; then
   if command -v python3 >/dev/null 2>&1 && [ -f "$cases/check.py" ]; then
-    python3 "$cases/check.py" --run "$program" 01-one-literal 01-several-literals || wrong=1
+    python3 "$cases/check.py" --run "$program" "${whole[@]}" || wrong=1
   else
-    say "no check.py beside the cases, or no python3: the groups 01 are skipped"
+    say "no check.py beside the cases, or no python3: the groups that are built whole are skipped"
   fi
-  set -- 03-names 04-operators 05-actions 06-priorities 07-state-actions
+  set -- 03-names 07-state-actions 11-sessions 13-sections
 fi
 for group; do
   if [ -d "$cases/$group" ]; then run_group "$group"; else say "no group $group: skipped"; fi
