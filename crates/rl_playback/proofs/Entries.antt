@@ -95,6 +95,31 @@ entry_is a valid None entry name text e f at exists = tt
 entry_is a valid (Some id) entry name text e f at exists =
     named_entry a valid id.0 name exists.0 exists.1 (at ∙ ap (λ u. Some u) f) ∙ sym (ap (λ o. entry_or_start (names_in a) o) e)
 
+absent : (xs : List (List ℕ)) (name : List ℕ) → ((i : ℕ) → slice_get xs i ≢ Some name) → position_or_len (λ other. bytes_eq other name) xs ≡ length xs
+absent [] name none = refl
+absent (x ∷ xs) name none = go (bytes_eq x name) refl (absent xs name (λ i. none (suc i)))
+  where
+    go : (b : Bool) → bytes_eq x name ≡ b → position_or_len (λ other. bytes_eq other name) xs ≡ length xs →
+        cond (not b) (1 + position_or_len (λ other. bytes_eq other name) xs) 0 ≡ suc (length xs)
+    go true e ih = absurd (none 0 (ap (λ u. Some u) ((bytes_eq-Decides x name).0 e)))
+    go false e ih = ap (λ n. 1 + n) ih ∙ omega arith
+
+not_less : (n : ℕ) → nat_lt n n ≡ false
+not_less n = grind (arith, nat_tests)
+
+none_behind : (names : List (List ℕ)) (name : List ℕ) → ((k : ℕ) → 1 ≤ k → slice_get names k ≢ Some name) →
+    unwrap_or (option_map (λ i. i + 1) (position (λ other. bytes_eq other name) (drop 1 names))) 0 ≡ 0
+none_behind [] name none = refl
+none_behind (z ∷ zs) name none =
+    ap (λ n. unwrap_or (option_map (λ i. i + 1) (cond (nat_lt n (length zs)) (Some n) None)) 0) (absent zs name (λ i. none (suc i) (omega arith)))
+    ∙ ap (λ b. unwrap_or (option_map (λ i. i + 1) (cond b (Some (length zs)) None)) 0) (not_less (length zs))
+
+-- where no entry has the name, the script's entry is none
+pub no_entry : (a : Arrays) (entry : Option (List ℕ)) (name text : List ℕ) → entry ≡ Some name → text ≡ name →
+    ((k : ℕ) → 1 ≤ k → slice_get a.entry_names k ≢ Some text) → entry_or_start (names_in a) entry ≡ 0
+no_entry a entry name text e f none =
+    ap (λ o. entry_or_start (names_in a) o) e ∙ none_behind a.entry_names name (λ k low at. none k low (at ∙ ap (λ u. Some u) (sym f)))
+
 -- a machine has an entry
 pub some_names : (a : Arrays) → Valid a → a.entry_names ≡ [] → ⊥
 some_names a valid e = let h = has-due a valid the.EntryNames in let none : length a.entry_names ≡ 0 = ap length e in omega arith

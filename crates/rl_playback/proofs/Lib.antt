@@ -19,3 +19,4 @@ pub mod Entries
 pub mod LeftViews
 pub mod LineLaws
 pub mod Starting
+pub mod Admitted

@@ -1,23 +1,24 @@
 -- A replay stands behind the line at a place of the script.
-use Rattle.std.proofs.Common.{◌≡◌, ◌≢◌, ℕ, suc, ◌+◌, ◌<◌, ◌^◌, Bool, true, false, List, [], ◌∷◌, ◌++◌, length, take, drop, get_or, Option, Some, None, sym, ◌∙◌, ap, subst}
+use Rattle.std.proofs.Common.{◌≡◌, ◌≢◌, ℕ, suc, ◌+◌, ◌<◌, ◌^◌, Bool, true, false, nat_le, ◌==◌, List, [], ◌∷◌, ◌++◌, length, take, drop, get_or, Option, Some, None, sym, ◌∙◌, ap, subst}
 use Rattle.rl_run.specs.declared.calls.Verdict.TheVariants.{Error}
 use Rattle.rl_arrays.specs.declared.arrays.Arrays.{Arrays}
 use Rattle.rl_tables.proofs.Kinded.{is_kinded}
 use Rattle.rl_replay.specs.declared.script.Event.{Event}
 use Rattle.rl_replay.specs.declared.script.Event.TheVariants.{Open, Piece, End, Pick, Say}
 use Rattle.rl_replay.specs.declared.script.Line.{Line}
-use Rattle.rl_replay.specs.declared.script.ScriptFault.TheVariants.{NoSession}
-use Rattle.rl_replay.specs.Sessions.{session_of, opening_of, feeding_of, is_end, opened_by, only, is_opened, is_ended, entry_or_start, fault_of}
+use Rattle.rl_replay.specs.declared.script.ScriptFault.TheVariants.{Twice, NoSession, NoEntry, Full}
+use Rattle.rl_replay.specs.Sessions.{session_of, opening_of, feeding_of, is_end, opened_by, only, is_opened, is_ended, entry_or_start, live, fault_of}
 use Rattle.rl_script.specs.TableNames.{names_in}
-use Rattle.rl_sessions.specs.SessionsValue.{SessionValue, SessionsValue, find, verdict_in}
+use Rattle.rl_sessions.specs.SessionsValue.{SessionValue, SessionsValue, find, refusal, verdict_in}
 use Rattle.rl_playback.specs.declared.log.Log.{Log}
 use Rattle.rl_playback.specs.Books.{Text}
-use Rattle.rl_playback.specs.Deeds.{Opens, Feeds, Finishes}
+use Rattle.rl_playback.specs.Deeds.{HasLive, Opens, Feeds, Finishes}
 use Rattle.rl_playback.specs.Stands.{Stands}
+use Rattle.rl_playback.proofs.Admitted.{finds_live, not_refused}
 use Rattle.rl_playback.proofs.Fronts.{take_next, cut_there}
 use Rattle.rl_playback.proofs.LineSteps.{fed_stands, ended_stands, has_room}
 use Rattle.rl_playback.proofs.QuietSteps.{quiet_stands, open_stands}
-use Rattle.rl_playback.proofs.Steps.{no_fault, is_live_there}
+use Rattle.rl_playback.proofs.Steps.{no_fault, is_live_there, is_new_there}
 
 module _ (script : List Line) (place : ℕ) (a : Arrays) (log : Log) (sessions : SessionsValue) (line : Line)
     (less : place < length script) (item : line ≡ get_or script place line) (st : Stands script (take place script) a log sessions) where
@@ -43,6 +44,11 @@ module _ (script : List Line) (place : ℕ) (a : Arrays) (log : Log) (sessions :
     piece_live : LiveAt (session_of line.event)
     piece_live = live_at (Piece name piece) is (is_live_there (is_opened (only name past)) (is_ended (only name past)) (NoSession line.number) (at_event (Piece name piece) is))
 
+    pub piece_finds : (n : List ℕ) → n ≡ name → HasLive n sessions
+    piece_finds n e =
+        let P : List ℕ → Type 0 = λ s. HasLive s sessions in
+        subst P (ap (λ v. session_of v) is ∙ sym e) (finds_live script past a log sessions st (session_of line.event) piece_live.0 piece_live.1)
+
     names_none : opened_by line.event ≡ None
     names_none = ap (λ v. opened_by v) is
 
@@ -67,6 +73,11 @@ module _ (script : List Line) (place : ℕ) (a : Arrays) (log : Log) (sessions :
     end_live : LiveAt (session_of line.event)
     end_live = live_at (End name) is (is_live_there (is_opened (only name past)) (is_ended (only name past)) (NoSession line.number) (at_event (End name) is))
 
+    pub end_finds : (n : List ℕ) → n ≡ name → HasLive n sessions
+    end_finds n e =
+        let P : List ℕ → Type 0 = λ s. HasLive s sessions in
+        subst P (ap (λ v. session_of v) is ∙ sym e) (finds_live script past a log sessions st (session_of line.event) end_live.0 end_live.1)
+
     pub end_stands : (session : Text) (n : List ℕ) → session.now ≡ name → n ≡ name → (next : Log) (later : SessionsValue) →
         Finishes n sessions later (record log { session = session }) next → Stands script (take (place + 1) script) a next later
     end_stands session n e f next later finishes =
@@ -75,6 +86,23 @@ module _ (script : List Line) (place : ℕ) (a : Arrays) (log : Log) (sessions :
         (ended_stands script past a line (is_kinded a st.valid) log sessions st (drop (suc place) script) whole end_live.0 end_live.1 (ap (λ v. opened_by v) is) session
         (e ∙ sym (ap (λ v. session_of v) is)) next later (ap (λ v. is_end v) is) (ap (λ v. feeding_of v) is)
         (subst P (f ∙ sym (ap (λ v. session_of v) is)) finishes))
+
+  module _ (name : List ℕ) (entry : Option (List ℕ)) (is : line.event ≡ Open name entry) where
+    opens_new : (is_opened (only name past) ≡ false) × ((entry_or_start (names_in a) entry == 0) ≡ false) × (nat_le 1024 (length (live past)) ≡ false)
+    opens_new =
+        is_new_there (is_opened (only name past)) (entry_or_start (names_in a) entry == 0) (nat_le 1024 (length (live past))) (Twice line.number) (NoEntry line.number) (Full line.number)
+        (at_event (Open name entry) is)
+
+    pub entry_there : entry_or_start (names_in a) entry ≢ 0
+    entry_there e = no (sym (ap (λ n. n == 0) e) ∙ opens_new.1)
+      where
+        no : true ≡ false → ⊥
+        no e = cc
+
+    pub opening_admitted : (n : List ℕ) → n ≡ name → refusal n sessions.all ≡ None
+    opening_admitted n e =
+        let P : List ℕ → Type 0 = λ s. refusal s sessions.all ≡ None in
+        subst P (sym e) (not_refused script past a log sessions st name opens_new.0 opens_new.2)
 
   pub opening_stands : (name : List ℕ) (entry : Option (List ℕ)) → line.event ≡ Open name entry → (n : List ℕ) → n ≡ name → (later : SessionsValue) →
       Opens n (entry_or_start (names_in a) entry) sessions later → Stands script (take (place + 1) script) a log later

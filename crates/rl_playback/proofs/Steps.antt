@@ -155,6 +155,13 @@ is_live_there true false fault e = (refl, refl)
 is_live_there true true fault e = absurd (cc e)
 is_live_there false b fault e = absurd (cc e)
 
+pub is_new_there : (known none full : Bool) (f g h : ScriptFault) → option_or (then_some known f) (option_or (then_some none g) (then_some full h)) ≡ None →
+    (known ≡ false) × (none ≡ false) × (full ≡ false)
+is_new_there true none full f g h e = absurd (cc e)
+is_new_there false true full f g h e = absurd (cc e)
+is_new_there false false true f g h e = absurd (cc e)
+is_new_there false false false f g h e = (refl, refl, refl)
+
 -- ---- all pieces of a session are among those of the script
 
 fed_only : (t : List ℕ) (lines : List Line) → length (fed (only t lines)) ≤ length (fed lines)

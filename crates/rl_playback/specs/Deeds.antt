@@ -38,6 +38,12 @@ pub record Adds (old new : Log) (text : List ℕ) : Type 0 where
   pub tables : tables_of new ≡ tables_of old
   pub room : new.is_full ≡ old.is_full
 
+-- a session of the name was started and not ended
+pub record HasLive (s : List ℕ) (sessions : SessionsValue) : Type 0 where
+  pub session : SessionValue
+  pub found : find s sessions.all ≡ Some session
+  pub going : session.is_closed ≡ false
+
 -- a session that no line has opened starts at an entry, behind all others
 pub record Opens (s : List ℕ) (entry : ℕ) (old new : SessionsValue) : Type 0 where
   pub unknown : find s old.all ≡ None

@@ -1,37 +1,41 @@
 // What the lines of a script do.
-ghost use Rattle.std.specs.Prelude.{◌≡◌, ◌++◌, [], true, false, if◌then◌else◌, OnOk, IfSome, unwrap_or};
+ghost use Rattle.std.specs.Prelude.{◌≡◌, ◌≢◌, ◌++◌, [], None, true, false, if◌then◌else◌, OnOk, unwrap_or};
 ghost use Rattle.rl_arrays.specs.Valid.{Valid};
 ghost use Rattle.rl_tables.specs.Steps.{IsEntryNumber};
 ghost use Rattle.rl_replay.specs.Lines.{end_line};
 ghost use Rattle.rl_replay.specs.Sessions.{entry_or_start};
 ghost use Rattle.rl_script.specs.TableNames.{names_in};
+ghost use Rattle.rl_sessions.specs.SessionsValue.{refusal};
 ghost use Rattle.rl_playback.specs.Log.{stop_text};
 ghost use Rattle.rl_playback.specs.Deeds as spec;
-ghost use Rattle.rl_playback.specs.Deeds.{HasStopped, HasNotStopped, HasRoom, Adds, Opens, Feeds, Finishes};
+ghost use Rattle.rl_playback.specs.Deeds.{HasStopped, HasNotStopped, HasRoom, HasLive, Adds, Opens, Feeds, Finishes};
 
 use crate::log::Log;
 use crate::takes::{take_end, take_piece};
 use rl_replay::{push_end_line, push_stop_line};
 use rl_run::{Outcome, Verdict};
-use rl_sessions::Sessions;
+use rl_sessions::{SessionFault, Sessions};
 use rl_tables::Tables;
 use rl_types::{EntryId, Memory, Name};
 use std::alloc::Global;
 
-// The entry at which a session is opened; None where no entry has the name.
-fn entry_for(tables: &Tables, entry: &Option<Name>) -> Option<EntryId>
-    requires { Valid tables.now }
-    ensures value { IfSome result (λ e. e.0 ≡ entry_or_start (names_in tables.now) entry.now) }
-    ensures exists { IfSome result (λ e. IsEntryNumber tables.now e.0) }
+// The entry at which a session is opened.
+fn entry_for(tables: &Tables, entry: &Option<Name>) -> EntryId
+    requires valid { Valid tables.now }
+    requires exists { entry_or_start (names_in tables.now) entry.now ≢ 0 }
+    ensures value { result.0 ≡ entry_or_start (names_in tables.now) entry.now }
+    ensures exists { IsEntryNumber tables.now result.0 }
 {
     match entry {
-        Some(name) => tables.entry_named(name.bytes()),
-        None => Some(tables.start_entry()),
+        Some(name) => match tables.entry_named(name.bytes()) {
+            Some(entry) => entry,
+            None => unreachable!(),
+        },
+        None => tables.start_entry(),
     }
 }
 
-// Opens a session. In an admitted script the entry is there, and the session is new and not one too many; where one of these
-// is not so, nothing is opened.
+// Opens a session, which is new and not one too many, at an entry that is there.
 pub fn open(
     alloc: Global,
     tables: &Tables,
@@ -41,14 +45,15 @@ pub fn open(
 ) -> Result<(), Memory>
     requires tables { sessions.old.tables ≡ tables.now }
     requires valid { Valid tables.now }
+    requires exists { entry_or_start (names_in tables.now) entry.now ≢ 0 }
+    requires admitted { refusal name.now sessions.old.all ≡ None }
     ensures { OnOk result (Opens name.now (entry_or_start (names_in tables.now) entry.now) sessions.old sessions.new) }
 {
-    let Some(entry) = entry_for(tables, entry) else {
-        return Err(Memory);
-    };
+    let entry = entry_for(tables, entry);
     match sessions.start(alloc, name, entry) {
         Ok(()) => Ok(()),
-        Err(_) => Err(Memory),
+        Err(SessionFault::Memory) => Err(Memory),
+        Err(_) => unreachable!(),
     }
 }
 
@@ -118,7 +123,8 @@ pub fn feed(
     name: &[u8],
     piece: &[u8],
 ) -> Result<(), Memory>
-    requires { HasRoom name.now piece.now sessions.old }
+    requires live { HasLive name.now sessions.old }
+    requires room { HasRoom name.now piece.now sessions.old }
     ensures { OnOk result (Feeds name.now sessions.old sessions.new log.old log.new piece.now) }
 {
     if has_stopped(sessions, name) {
@@ -131,6 +137,7 @@ pub fn feed(
 
 // Ends a session, and adds the lines of its calls, of its stop and of its end.
 pub fn finish(log: &mut Log<'_>, sessions: &mut Sessions<'_>, name: &[u8]) -> Result<(), Memory>
+    requires { HasLive name.now sessions.old }
     ensures { OnOk result (Finishes name.now sessions.old sessions.new log.old log.new) }
 {
     let was_stopped = has_stopped(sessions, name);

@@ -99,7 +99,8 @@ fn push_all_left(log: &mut Log<'_>, sessions: &Sessions<'_>) -> Result<(), Memor
 /// in which the script's lines make them, and then a left line for each session that was not ended, in order of opening.
 /// The sessions have the settings of a replay: a stack of 64 entries, 8 characters to go back by, and tokens of at most
 /// 65,536 characters. A call is answered by the session's line for it, or else as `answer_by_itself` says (this profile).
-/// `Memory` where memory is wanting.
+/// `Memory` where memory is wanting, or where a name was called more often in a session than 64 bits can count; no line of
+/// an admitted script is refused.
 pub fn lines_of_script<'a>(
     alloc: Global,
     tables: &'a Tables,

@@ -5,8 +5,8 @@ use Rattle.rl_playback.specs.Log.{LogsCall}
 use Rattle.rl_playback.proofs.Transfers.{piece_name, piece_logged}
 use Rattle.rl_playback.proofs.takes.take_piece.Goals as goal
 
-pub returns-in-Ok-clause-taken : goal.returns-in-Ok-clause-taken
-returns-in-Ok-clause-taken c =
+pub returns-clause-taken : goal.returns-clause-taken
+returns-clause-taken c =
     let t = c.in-Ok.ensures.taken in
     let n = piece_name {H = record { 0 : MutBor Log }} _ (λ h. h.0.ghost_name) (λ h k x g s. search (of_calls, rules)) _ _ _ _ _ _ _ t in
     let e = c.log-1.given.1 (sym n) in
