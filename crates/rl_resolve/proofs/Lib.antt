@@ -4,3 +4,4 @@ pub mod OutcomeLaws
 pub mod AnswerLaws
 pub mod ResolveLaws
 pub mod LimitLaws
+pub mod InstanceLaws

@@ -3,4 +3,5 @@ pub mod Refusals
 pub mod Limits
 pub mod Machines
 pub mod Resolving
+pub mod Instances
 pub mod Answers

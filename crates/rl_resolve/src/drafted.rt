@@ -51,7 +51,8 @@ pub fn drafted(
     check_stop(alloc, &unrolled.stop)?;
     refuse(alloc, files, machine_fault(which, names.as_slice()))?;
     told(alloc, files, check_leaves(alloc, steps))?;
-    refuse(alloc, files, instance_fault(which, steps, names.as_slice()))?;
+    let without_instance = instance_fault(alloc, which, steps, names.as_slice())?;
+    refuse(alloc, files, without_instance)?;
     told(alloc, files, check_built(alloc, steps))?;
     read(alloc, files, steps)
 }

@@ -1,15 +1,19 @@
 // Which machines there are, and which have an instantiation.
-ghost use Rattle.std.specs.Prelude.{◌≡◌, bytes_eq, option_copied};
+ghost use Rattle.std.specs.Prelude.{◌≡◌, bytes_eq, option_copied, MatchResult};
 ghost use Rattle.rl_names.specs.Answers.{first_of};
 ghost use Rattle.rl_names.specs.Frames as frames;
 ghost use Rattle.rl_names.specs.Leaves as leaves;
+ghost use Rattle.rl_resolve.specs.Instances.{Shows};
 ghost use Rattle.rl_resolve.specs.Resolving as resolving;
+ghost use Rattle.rl_resolve.specs.declared.answer.ResolveFault.TheVariants as refusal;
 
-use crate::answer::Runs;
+use crate::answer::{ResolveFault, Runs};
+use crate::instantiated::{Instantiated, has_in, instantiated};
 use rl_grammar::ReadFault;
-use rl_grammar::syntax::{DefinitionSign, Statement};
+use rl_grammar::syntax::Statement;
 use rl_steps::Step;
 use rl_types::{Fault, FaultKind, Name, Place};
+use std::alloc::Global;
 
 fn fault_at(kind: FaultKind, place: Place) -> ReadFault
     ensures { result ≡ leaves.fault_at kind place }
@@ -67,30 +71,6 @@ pub fn machine_fault(which: Runs<'_>, machines: &[Name]) -> Option<ReadFault>
     unless(has_machine(which, machines), at_head(FaultKind::F4))
 }
 
-fn is_instantiation(sign: DefinitionSign) -> bool
-    ensures { result ≡ resolving.is_instantiation sign }
-{
-    match sign {
-        DefinitionSign::Name(_) => false,
-        DefinitionSign::Instantiation(_) => true,
-    }
-}
-
-fn instantiates(statement: &Statement) -> bool
-    ensures { result ≡ resolving.instantiates statement.now }
-{
-    match statement {
-        Statement::Definition(one) => is_instantiation(one.sign),
-        Statement::Machine(_)
-        | Statement::Include(_)
-        | Statement::Alphtype(_)
-        | Statement::Access(_)
-        | Statement::Variable(_)
-        | Statement::Write(_)
-        | Statement::Action(_) => false,
-    }
-}
-
 /// The step belongs to the machine.
 pub fn is_of(machine: &[u8], step: &Step) -> bool
     ensures { result ≡ frames.is_of machine.now step.now }
@@ -98,24 +78,27 @@ pub fn is_of(machine: &[u8], step: &Step) -> bool
     machine == step.machine.bytes()
 }
 
-fn is_instance(machine: &[u8], step: &Step) -> bool
-    ensures { result ≡ resolving.is_instance machine.now step.now }
-{
-    is_of(machine, step) && instantiates(&step.statement)
-}
-
-fn has_instance(steps: &[Step], machine: &[u8]) -> bool
+/// The table says it of all machines of these statements.
+fn has_instance(table: &Instantiated<'_>, steps: &[Step], machine: &[u8]) -> bool
+    requires { Shows steps.now table.now }
     ensures { result ≡ resolving.has_instance steps.now machine.now }
 {
-    steps.iter().any(|step| is_instance(machine, step))
+    let _ = steps;
+    has_in(table, machine)
 }
 
-fn written_fault(steps: &[Step], machine: &[u8], statement: &Statement) -> Option<ReadFault>
+fn written_fault(
+    table: &Instantiated<'_>,
+    steps: &[Step],
+    machine: &[u8],
+    statement: &Statement,
+) -> Option<ReadFault>
+    requires { Shows steps.now table.now }
     ensures { result ≡ resolving.written_fault steps.now machine.now statement.now }
 {
     match statement {
         Statement::Write(one) => unless(
-            has_instance(steps, machine),
+            has_instance(table, steps, machine),
             fault_at(FaultKind::F18, one.start),
         ),
         Statement::Machine(_)
@@ -128,11 +111,12 @@ fn written_fault(steps: &[Step], machine: &[u8], statement: &Statement) -> Optio
     }
 }
 
-fn first_written(steps: &[Step]) -> Option<ReadFault>
+fn first_written(table: &Instantiated<'_>, steps: &[Step]) -> Option<ReadFault>
+    requires { Shows steps.now table.now }
     ensures { result ≡ first_of (λ s. resolving.written_fault steps.now s.machine s.statement) steps.now }
 {
     for step in steps {
-        let fault = written_fault(steps, step.machine.bytes(), &step.statement);
+        let fault = written_fault(table, steps, step.machine.bytes(), &step.statement);
         if fault.is_some() {
             return fault;
         }
@@ -154,21 +138,45 @@ fn running<'a>(which: Runs<'a>, machines: &'a [Name]) -> Option<&'a [u8]>
     }
 }
 
-fn running_fault(steps: &[Step], machine: Option<&[u8]>) -> Option<ReadFault>
+fn running_fault(
+    table: &Instantiated<'_>,
+    steps: &[Step],
+    machine: Option<&[u8]>,
+) -> Option<ReadFault>
+    requires { Shows steps.now table.now }
     ensures { result ≡ resolving.running_fault steps.now (option_copied machine.entry) }
 {
     match machine {
         None => None,
-        Some(machine) => unless(has_instance(steps, machine), at_head(FaultKind::F18)),
+        Some(machine) => unless(has_instance(table, steps, machine), at_head(FaultKind::F18)),
     }
 }
 
-/// F18 at the first `write` of a machine without an instantiation, or where the machine that runs has none.
-pub fn instance_fault(which: Runs<'_>, steps: &[Step], machines: &[Name]) -> Option<ReadFault>
+fn fault_in(
+    table: &Instantiated<'_>,
+    which: Runs<'_>,
+    steps: &[Step],
+    machines: &[Name],
+) -> Option<ReadFault>
+    requires { Shows steps.now table.now }
     ensures { result ≡ resolving.instance_fault which.entry steps.now machines.now }
 {
-    match first_written(steps) {
+    match first_written(table, steps) {
         Some(fault) => Some(fault),
-        None => running_fault(steps, running(which, machines)),
+        None => running_fault(table, steps, running(which, machines)),
     }
+}
+
+/// F18 at the first `write` of a machine without an instantiation, or where the machine that runs has none. Want of memory
+/// is told.
+pub fn instance_fault(
+    alloc: Global,
+    which: Runs<'_>,
+    steps: &[Step],
+    machines: &[Name],
+) -> Result<Option<ReadFault>, ResolveFault>
+    ensures { MatchResult result (λ fault. fault ≡ resolving.instance_fault which.entry steps.now machines.now) (λ e. e ≡ refusal.Memory) }
+{
+    let table = instantiated(alloc, steps)?;
+    Ok(fault_in(&table, which, steps, machines))
 }

@@ -4,6 +4,7 @@
 mod answer;
 mod drafted;
 mod instances;
+mod instantiated;
 mod limits;
 mod looks;
 mod machines;
