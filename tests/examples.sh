@@ -3,8 +3,8 @@
 #
 #   tests/examples.sh
 #
-# A folder NAME has the source NAME.rl, the script NAME.script and, in `expected`, what the program prints for them. The status
-# is 1 where it prints something else, and 0 where it does not or nothing could be run. RAGEL_RUN names another program than
+# A folder NAME has the source NAME.rl or the printed file NAME.c, the script NAME.script and, in `expected`, what the program
+# prints for them. The status is 1 where it prints something else, and 0 where it does not or nothing could be run. RAGEL_RUN names another program than
 # bin/ragel-run.
 . "$(dirname "${BASH_SOURCE[0]}")/common.sh"
 set_up
@@ -12,7 +12,9 @@ good=0 wrong=0
 for folder in "$top"/examples/*/; do
   name=${folder%/}
   name=${name##*/}
-  (cd "$top" && exec "$program" "examples/$name/$name.rl" "examples/$name/$name.script") </dev/null >"$work/out" 2>"$work/err"
+  file=examples/$name/$name.rl
+  [ -f "$top/$file" ] || file=examples/$name/$name.c
+  (cd "$top" && exec "$program" "$file" "examples/$name/$name.script") </dev/null >"$work/out" 2>"$work/err"
   if cmp -s "$folder/expected" "$work/out" && [ ! -s "$work/err" ]; then
     good=$((good + 1))
   else

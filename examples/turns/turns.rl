@@ -1,0 +1,5 @@
+%%{
+  machine turns;
+  action x { }
+  main := 'ab' $x;
+}%%
