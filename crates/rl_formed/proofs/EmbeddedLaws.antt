@@ -1,0 +1,198 @@
+-- The actions that entries embed are actions of the machine.
+use Rattle.std.proofs.Common.{◌≡◌, ℕ, zero, suc, ◌+◌, ◌++◌, Bool, true, false, cond, List, [], ◌∷◌, map, length, Option, None, Some, Result, Ok, sym, ap, ◌∙◌, subst, arith}
+use Rattle.std.specs.Prelude.{slice_get, if◌then◌else◌}
+use Rattle.std.specs.List.{position}
+use Rattle.std.specs.Str.{bytes_eq}
+use Rattle.std.proofs.lemmas.List.Quantifiers.{position-Some}
+use Rattle.rl_types.specs.declared.alphabet.Alphabet.{Alphabet}
+use Rattle.rl_types.specs.declared.numbers.ActionId.{ActionId}
+use Rattle.rl_types.specs.declared.numbers.Place.{Place}
+use Rattle.rl_types.specs.KeyRange.{Range}
+use Rattle.rl_grammar.specs.declared.read_fault.ReadFault.{ReadFault}
+use Rattle.rl_grammar.specs.declared.syntax.ActionUse.{ActionUse}
+use Rattle.rl_grammar.specs.declared.syntax.ActionUse.TheVariants as action
+use Rattle.rl_grammar.specs.declared.syntax.Definition.{Definition as Written}
+use Rattle.rl_grammar.specs.declared.syntax.Embedding.{Embedding}
+use Rattle.rl_grammar.specs.declared.syntax.Embedding.TheVariants as embedding
+use Rattle.rl_grammar.specs.declared.syntax.Label.{Label}
+use Rattle.rl_grammar.specs.declared.syntax.Label.TheVariants as label
+use Rattle.rl_grammar.specs.declared.syntax.Number.{Number}
+use Rattle.rl_grammar.specs.declared.syntax.Priority.{Priority}
+use Rattle.rl_grammar.specs.declared.syntax.Priority.TheVariants as priority
+use Rattle.rl_grammar.specs.declared.syntax.Scanner.{Scanner, out-Scanner}
+use Rattle.rl_grammar.specs.declared.syntax.Statement.{Statement}
+use Rattle.rl_grammar.specs.declared.syntax.Statement.TheVariants as statement
+use Rattle.rl_grammar.specs.declared.syntax.Union.{Union}
+use Rattle.rl_model.specs.Counts.{actions_in, trees_of}
+use Rattle.rl_model.specs.WellFormed.{IsNumber}
+use Rattle.rl_steps.specs.declared.step.Step.{Step}
+use Rattle.rl_draft.specs.declared.draft.Definition.{Definition}
+use Rattle.rl_draft.specs.declared.draft.Value.{Value}
+use Rattle.rl_draft.specs.declared.draft.Value.TheVariants as value
+use Rattle.rl_draft.specs.declared.expression.Expression.{Expression}
+use Rattle.rl_draft.specs.declared.expression.Expression.TheFolds.{fold-roll-Expression, fold-roll-Link}
+use Rattle.rl_draft.specs.declared.expression.Expression.TheOpen as level
+use Rattle.rl_draft.specs.declared.expression.Expression.TheVariants as made
+use Rattle.rl_draft.specs.declared.expression.Expression.TheVariants.{rolls-Leaf, rolls-Name, rolls-Chain, rolls-Repeated, rolls-Negated, rolls-Embedded}
+use Rattle.rl_draft.specs.declared.expression.Item.{Item}
+use Rattle.rl_draft.specs.declared.expression.Join.{Join}
+use Rattle.rl_draft.specs.declared.expression.Join.TheVariants as join
+use Rattle.rl_draft.specs.declared.expression.Leaf.{Leaf}
+use Rattle.rl_draft.specs.declared.expression.Leaf.TheVariants as leaf
+use Rattle.rl_draft.specs.declared.expression.Link.{Link}
+use Rattle.rl_draft.specs.declared.expression.Negation.{Negation}
+use Rattle.rl_draft.specs.declared.expression.Negation.TheVariants as negation
+use Rattle.rl_draft.specs.declared.expression.Put.{Put}
+use Rattle.rl_draft.specs.declared.expression.Put.TheVariants as put
+use Rattle.rl_draft.specs.declared.expression.Repetition.{Repetition}
+use Rattle.rl_draft.specs.declared.expression.Repetition.TheVariants as repetition
+use Rattle.rl_draft.specs.declared.expression.Transitions.{Transitions}
+use Rattle.rl_names.specs.Actions.{anonymous_name}
+use Rattle.rl_names.specs.Answers.{and_then, each}
+use Rattle.rl_names.specs.Drafts.{names_of, scope_behind, value_by, value_read, pattern_read, scanner_read, definition_read, definition_behind, definitions_by, definitions_behind, definitions_of}
+use Rattle.rl_leaves.specs.BuiltIns.{built_in_leaf}
+use Rattle.rl_names.specs.Events.{Event, union_events}
+use Rattle.rl_names.specs.Expressions.{Scope, number_at, numbered, action_at, action_named, action_read, prioritized, priority_read, label_read, put_read, transitions_of, class_of, kind_of, link, union_told}
+use Rattle.rl_names.specs.Leaves.{number_read}
+use Rattle.rl_names.specs.Frames.{is_of}
+use Rattle.rl_names.specs.Values.{scanner_of}
+use Rattle.rl_rewrite.specs.Entries.{Made, Meaning, meanings_of, is_entry, entry, entries, made_by, conditions_by, conditions_behind, all_conditions}
+use Rattle.rl_rewrite.specs.Walk.{begun}
+use Rattle.rl_rewrite.specs.Plain as p
+use Rattle.rl_rewrite.specs.Plain.{Plain, Operand, joined, repeated, all_repeated, whole, all_negated, starred, character, item, behind, row, leaf_plain, chained, named, expression_step, link_step, plain, operand, value_plain, plains_behind, plains}
+use Rattle.rl_form.proofs.Lists.{Each, each_append}
+use Rattle.rl_formed.proofs.ResultLaws.{ok_then, same_ok, err_or_ok, not_refused, along_keeps, always}
+use Rattle.rl_formed.proofs.ReadLaws.{OfRead, of_ok, of_then, union_holds}
+use Rattle.rl_formed.proofs.PlainLaws.{IsKept, HoldsOfRanges, HoldsOfLeaf, HoldsOfEvents, all_meanings}
+use Rattle.rl_formed.proofs.WalkLaws.{HoldsOfPut, HoldsOf, InConditions, walk_actions}
+
+-- ---- an action that is read is one of the machine's
+
+number_found : (place : Place) (o : Option ℕ) (i : ℕ) → number_at place o ≡ Ok i → o ≡ Some i
+number_found place None i e = absurd (err_or_ok _ i e)
+number_found place (Some j) i e = ap (λ z. Some z) (same_ok j i e)
+
+module _ (k : Scope) where
+  abbrev IsOne : ℕ → Type 0
+  IsOne n = IsNumber (length k.actions) n
+
+  abbrev IsOneAction : ActionId → Type 0
+  IsOneAction a = IsOne a.0
+
+  one_named : (place : Place) (name : List ℕ) → OfRead IsOneAction (action_named k place name)
+  one_named place name a e =
+      let i = ok_then (numbered place name k.actions) action_at a e in
+      let found = number_found place (position (bytes_eq name) k.actions) i.0 i.1 in
+      let within = (position-Some (bytes_eq name) k.actions i.0 [] found).0 in
+      let one : IsOne (i.0 + 1) = (omega arith, omega (arith, within)) in
+      subst IsOneAction (same_ok (record { 0 = i.0 + 1 }) a i.2) one
+
+  one_read : (a : ActionUse) → OfRead IsOneAction (action_read k a)
+  one_read (action.Name w) = one_named w.place w.text
+  one_read (action.Group opening w closing) = one_named w.place w.text
+  one_read (action.Code w) = one_named w.place (anonymous_name w.place)
+
+  abbrev HoldsPut : Put → Type 0
+  HoldsPut q = HoldsOfPut IsOne q
+
+  priority_holds : (ts : Transitions) (place : Place) (name : List ℕ) (n : Number) → OfRead HoldsPut (prioritized k ts place name n)
+  priority_holds ts place name n =
+      of_then (λ i. Unit {0}) HoldsPut (numbered place name k.priorities) (λ i. and_then (number_read n) (λ v. Ok (put.Priority ts i v))) (λ i e. tt)
+      (λ i u. of_then (λ v. Unit {0}) HoldsPut (number_read n) (λ v. Ok (put.Priority ts i v)) (λ v e. tt) (λ v w. of_ok HoldsPut (put.Priority ts i v) tt))
+
+  rank_holds : (ts : Transitions) (r : Priority) → OfRead HoldsPut (priority_read k ts r)
+  rank_holds ts (priority.Plain n) = priority_holds ts _ k.owner n
+  rank_holds ts (priority.Named r) = priority_holds ts r.name.place r.name.text r.value
+
+  label_holds : (ts : Transitions) (l : Label) → OfRead HoldsPut (label_read k ts l)
+  label_holds ts (label.Action a) = of_then IsOneAction HoldsPut (action_read k a) (λ n. Ok (put.Action ts n)) (one_read a) (λ n h. of_ok HoldsPut (put.Action ts n) h)
+  label_holds ts (label.Priority r) = rank_holds ts r
+
+  puts_hold : (m : Embedding) → OfRead HoldsPut (put_read k m)
+  puts_hold (embedding.Transition s l) = label_holds (transitions_of s) l
+  puts_hold (embedding.State mark a) =
+      of_then IsOneAction HoldsPut (action_read k a) (λ n. Ok (put.Mark (class_of mark.class) (kind_of mark.kind) n)) (one_read a) (λ n h. of_ok HoldsPut (put.Mark (class_of mark.class) (kind_of mark.kind) n) h)
+  puts_hold (embedding.When place a) = of_then IsOneAction HoldsPut (action_read k a) (λ n. Ok (put.When n)) (one_read a) (λ n h. of_ok HoldsPut (put.When n) h)
+
+-- ---- entries
+
+-- any leaf will do
+abbrev Any : List Range → Type 0
+Any ranges = Unit {0}
+
+any_ranges : (o : Option (List Range)) → HoldsOfRanges Any o
+any_ranges None = tt
+any_ranges (Some ranges) = tt
+
+any_items : (items : List Item) → Each (λ (i : Item). HoldsOfRanges Any i.ranges) items
+any_items [] = tt
+any_items (i ∷ is) = (any_ranges i.ranges, any_items is)
+
+any_leaf : (l : Leaf) → HoldsOfLeaf Any l
+any_leaf (leaf.Set ranges) = tt
+any_leaf leaf.Null = tt
+any_leaf leaf.Nothing = tt
+any_leaf (leaf.Row items) = any_items items
+
+abbrev AnyEvent : Event → Type 0
+AnyEvent e = Unit {0}
+
+any_statement : (s : Statement) → HoldsOfEvents AnyEvent s
+any_statement (statement.Definition d) = always (union_events d.value)
+any_statement (statement.Action a) = tt
+any_statement (statement.Machine m) = tt
+any_statement (statement.Include m) = tt
+any_statement (statement.Alphtype m) = tt
+any_statement (statement.Access m) = tt
+any_statement (statement.Variable m) = tt
+any_statement (statement.Write m) = tt
+
+any_steps : (steps : List Step) → Each (λ (s : Step). HoldsOfEvents AnyEvent s.statement) steps
+any_steps [] = tt
+any_steps (s ∷ ss) = (any_statement s.statement, any_steps ss)
+
+module _ (count : ℕ) (alphabet : Alphabet) where
+  abbrev IsOneOf : ℕ → Type 0
+  IsOneOf n = IsNumber count n
+
+  kept : IsKept alphabet (HoldsOf IsOneOf) (HoldsOfPut IsOneOf)
+  kept = record {
+    empty = λ at. tt;
+    none = λ at. tt;
+    every = λ at. tt;
+    pair = λ q a b at h g. (h, g);
+    guarded = λ g a b at h k. (h, k);
+    longest = λ a at h. h;
+    count = λ a least most at h. h;
+    series = λ a ps at h g. (h, g);
+  }
+
+  abbrev HoldsOfMeaning : Meaning → Type 0
+  HoldsOfMeaning m = HoldsOf IsOneOf m.plain
+
+  -- each action that it embeds is one of so many
+  abbrev pub HoldsOfMade : Made → Type 0
+  HoldsOfMade m = Each (λ t. Each IsOneOf (actions_in t)) (trees_of m.root)
+
+  abbrev pub HoldsOfConditions : List ActionId → Type 0
+  HoldsOfConditions cs = InConditions IsOneOf cs
+
+  made_case : (b : Bool) (cs : List ActionId) (m : Meaning) → HoldsOfMeaning m → HoldsOfConditions cs → Each HoldsOfMade (cond b (entry cs m ∷ []) []) × HoldsOfConditions (cond b (conditions_behind cs m) cs)
+  made_case true cs m h g = let w = walk_actions IsOneOf m.plain (begun cs) h g in (((w.0, tt), tt), w.1)
+  made_case false cs m h g = (tt, g)
+
+  entries_hold : (cs : List ActionId) (ms : List Meaning) → Each HoldsOfMeaning ms → HoldsOfConditions cs → Each HoldsOfMade (entries cs ms) × HoldsOfConditions (all_conditions cs ms)
+  entries_hold cs [] h g = (tt, g)
+  entries_hold cs (m ∷ ms) h g =
+      let one = made_case (is_entry m.sign) cs m h.0 g in
+      let more = entries_hold (conditions_by cs m) ms h.1 one.1 in
+      (each_append HoldsOfMade (made_by cs m) (entries (conditions_by cs m) ms) one.0 more.0, more.1)
+
+  -- of all entries, and of the conditions
+  pub all_hold : (k : Scope) (machine : List ℕ) (steps : List Step) (ds : List Definition) → k.alphabet ≡ alphabet → length k.actions ≡ count → definitions_of k machine steps ≡ Ok ds
+      → Each HoldsOfMade (entries [] (meanings_of ds (plains alphabet ds))) × HoldsOfConditions (all_conditions [] (meanings_of ds (plains alphabet ds)))
+  all_hold k machine steps ds known same e =
+      let puts = λ (names : List (List ℕ)) (earlier : List Definition) (owner : List ℕ). subst (λ z. (m : Embedding) → OfRead (HoldsOfPut (λ n. IsNumber z n)) (put_read (scope_behind k names earlier owner) m)) same (puts_hold (scope_behind k names earlier owner)) in
+      entries_hold [] (meanings_of ds (plains alphabet ds))
+      (all_meanings alphabet (HoldsOf IsOneOf) (HoldsOfPut IsOneOf) Any kept (λ ranges at u. tt) AnyEvent (λ o l b r. any_leaf l) (λ b. any_leaf (built_in_leaf alphabet b))
+      k machine steps ds (λ names earlier owner. (known, puts names earlier owner)) (any_steps steps) e) tt

@@ -1,0 +1,15 @@
+pub mod ResultLaws
+pub mod ActionLaws
+pub mod SizeLaws
+pub mod NameLaws
+pub mod CountLaws
+pub mod WalkLaws
+pub mod LeafLaws
+pub mod ReadLaws
+pub mod PlainLaws
+pub mod EmbeddedLaws
+pub mod SetLaws
+pub mod WrittenLaws
+pub mod PlaceNameLaws
+pub mod FileLaws
+pub mod DraftLaws

@@ -1,0 +1,265 @@
+-- What every operator keeps holds of each definition's expression.
+use Rattle.std.proofs.Common.{◌≡◌, ℕ, zero, suc, ◌++◌, Bool, true, false, cond, List, [], ◌∷◌, map, Option, None, Some, Result, Ok, sym, ap, ◌∙◌, subst}
+use Rattle.std.specs.Prelude.{slice_get, if◌then◌else◌}
+use Rattle.rl_types.specs.declared.alphabet.Alphabet.{Alphabet}
+use Rattle.rl_types.specs.declared.numbers.Place.{Place}
+use Rattle.rl_types.specs.KeyRange.{Range}
+use Rattle.rl_grammar.specs.declared.read_fault.ReadFault.{ReadFault}
+use Rattle.rl_grammar.specs.declared.syntax.Definition.{Definition as Written}
+use Rattle.rl_grammar.specs.declared.syntax.Embedding.{Embedding}
+use Rattle.rl_grammar.specs.declared.syntax.Operand.{Operand as Written_Operand}
+use Rattle.rl_leaves.specs.BuiltIns.{built_in_leaf}
+use Rattle.rl_leaves.specs.declared.built_in.BuiltIn.{BuiltIn}
+use Rattle.rl_grammar.specs.declared.syntax.Scanner.{Scanner, out-Scanner}
+use Rattle.rl_grammar.specs.declared.syntax.Statement.{Statement}
+use Rattle.rl_grammar.specs.declared.syntax.Statement.TheVariants as statement
+use Rattle.rl_grammar.specs.declared.syntax.Union.{Union}
+use Rattle.rl_steps.specs.declared.step.Step.{Step}
+use Rattle.rl_draft.specs.declared.draft.Definition.{Definition}
+use Rattle.rl_draft.specs.declared.draft.Value.{Value}
+use Rattle.rl_draft.specs.declared.draft.Value.TheVariants as value
+use Rattle.rl_draft.specs.declared.expression.Expression.{Expression}
+use Rattle.rl_draft.specs.declared.expression.Expression.TheFolds.{fold-roll-Expression, fold-roll-Link}
+use Rattle.rl_draft.specs.declared.expression.Expression.TheOpen as level
+use Rattle.rl_draft.specs.declared.expression.Expression.TheVariants as made
+use Rattle.rl_draft.specs.declared.expression.Expression.TheVariants.{rolls-Leaf, rolls-Name, rolls-Chain, rolls-Repeated, rolls-Negated, rolls-Embedded}
+use Rattle.rl_draft.specs.declared.expression.Item.{Item}
+use Rattle.rl_draft.specs.declared.expression.Join.{Join}
+use Rattle.rl_draft.specs.declared.expression.Join.TheVariants as join
+use Rattle.rl_draft.specs.declared.expression.Leaf.{Leaf}
+use Rattle.rl_draft.specs.declared.expression.Leaf.TheVariants as leaf
+use Rattle.rl_draft.specs.declared.expression.Link.{Link}
+use Rattle.rl_draft.specs.declared.expression.Negation.{Negation}
+use Rattle.rl_draft.specs.declared.expression.Negation.TheVariants as negation
+use Rattle.rl_draft.specs.declared.expression.Put.{Put}
+use Rattle.rl_draft.specs.declared.expression.Repetition.{Repetition}
+use Rattle.rl_draft.specs.declared.expression.Repetition.TheVariants as repetition
+use Rattle.rl_names.specs.Answers.{and_then, each}
+use Rattle.rl_names.specs.Drafts.{names_of, scope_behind, value_by, value_read, pattern_read, scanner_read, definition_read, definition_behind, definitions_by, definitions_behind, definitions_of}
+use Rattle.rl_names.specs.Events.{Event}
+use Rattle.rl_names.specs.Events as events
+use Rattle.rl_names.specs.Expressions.{Scope, put_read, link, union_told}
+use Rattle.rl_names.specs.Leaves.{leaf_read}
+use Rattle.rl_names.specs.Frames.{is_of}
+use Rattle.rl_names.specs.Values.{scanner_of}
+use Rattle.rl_rewrite.specs.Entries.{Meaning, meanings_of}
+use Rattle.rl_rewrite.specs.Plain as p
+use Rattle.rl_rewrite.specs.Plain.{Plain, Operand, Pairing, Guard, any, every, no_place, joined, repeated, all_repeated, whole, all_negated, starred, character, item, behind, row, leaf_plain, chained, named, expression_step, link_step, plain, operand, value_plain, plains_behind, plains}
+use Rattle.rl_form.proofs.Lists.{Each, each_append}
+use Rattle.rl_formed.proofs.ResultLaws.{ok_then, same_ok, not_refused, along_keeps}
+use Rattle.rl_formed.proofs.ReadLaws.{OfRead, of_ok, of_then, union_holds}
+
+-- it is kept by all that expressions are made of
+pub record IsKept (alphabet : Alphabet) (H : Plain → Type 0) (Q : Put → Type 0) : Type 0 where
+  pub empty : (at : Place) → H (p.Null at)
+  pub none : (at : Place) → H (p.Nothing at)
+  pub every : (at : Place) → H (p.Set (any alphabet) at)
+  pub pair : (q : Pairing) (a b : Plain) (at : Place) → H a → H b → H (p.Pair q a b at)
+  pub guarded : (g : Guard) (a b : Plain) (at : Place) → H a → H b → H (p.Guarded g a b at)
+  pub longest : (a : Plain) (at : Place) → H a → H (p.Longest a at)
+  pub count : (a : Plain) (least : ℕ) (most : Option ℕ) (at : Place) → H a → H (p.Count a least most at)
+  pub series : (a : Plain) (ps : List Put) (at : Place) → H a → Each Q ps → H (p.Series a ps at)
+
+-- each set of the leaf is such a one
+abbrev pub HoldsOfRanges : (List Range → Type 0) → Option (List Range) → Type 0
+HoldsOfRanges S None = Unit {0}
+HoldsOfRanges S (Some ranges) = S ranges
+
+abbrev pub HoldsOfLeaf : (List Range → Type 0) → Leaf → Type 0
+HoldsOfLeaf S (leaf.Set ranges) = S ranges
+HoldsOfLeaf S leaf.Null = Unit {0}
+HoldsOfLeaf S leaf.Nothing = Unit {0}
+HoldsOfLeaf S (leaf.Row items) = Each (λ (i : Item). HoldsOfRanges S i.ranges) items
+
+-- ---- operators keep it
+
+module _ (alphabet : Alphabet) (H : Plain → Type 0) (Q : Put → Type 0) (S : List Range → Type 0) (kept : IsKept alphabet H Q) (of_set : (ranges : List Range) (at : Place) → S ranges → H (p.Set ranges at)) where
+  every_holds : (at : Place) → H (every alphabet at)
+  every_holds at = kept.count (p.Set (any alphabet) at) 0 None at (kept.every at)
+
+  joined_hold : (j : Join) (a b : Plain) (at : Place) → H a → H b → H (joined alphabet j a b at)
+  joined_hold join.Union a b at h g = kept.pair p.Either a b at h g
+  joined_hold join.Intersection a b at h g = kept.pair p.Both a b at h g
+  joined_hold join.Difference a b at h g = kept.pair p.Less a b at h g
+  joined_hold join.StrongDifference a b at h g =
+      kept.pair p.Less a (p.Pair p.Then (p.Pair p.Then (every alphabet at) b at) (every alphabet at) at) at h
+      (kept.pair p.Then (p.Pair p.Then (every alphabet at) b at) (every alphabet at) at (kept.pair p.Then (every alphabet at) b at (every_holds at) g) (every_holds at))
+  joined_hold join.Concatenation a b at h g = kept.pair p.Then a b at h g
+  joined_hold join.LeftGuarded a b at h g = kept.guarded p.Left a b at h g
+  joined_hold join.EntryGuarded a b at h g = kept.guarded p.Entry a b at h g
+  joined_hold join.FinishGuarded a b at h g = kept.guarded p.Finish a b at h g
+
+  repeated_hold : (r : Repetition) (a : Plain) (at : Place) → H a → H (repeated r a at)
+  repeated_hold repetition.Star a at h = kept.count a 0 None at h
+  repeated_hold repetition.LongestStar a at h = kept.longest a at h
+  repeated_hold repetition.Optional a at h = kept.count a 0 (Some 1) at h
+  repeated_hold repetition.Plus a at h = kept.count a 1 None at h
+  repeated_hold (repetition.Count bounds) a at h = kept.count a bounds.least bounds.most at h
+
+  all_repeated_hold : (rs : List Repetition) (a : Plain) (at : Place) → H a → H (all_repeated rs a at)
+  all_repeated_hold [] a at h = h
+  all_repeated_hold (r ∷ rs) a at h = all_repeated_hold rs (repeated r a at) at (repeated_hold r a at h)
+
+  whole_holds : (m : Negation) (at : Place) → H (whole alphabet m at)
+  whole_holds negation.Language at = every_holds at
+  whole_holds negation.Character at = kept.every at
+
+  all_negated_hold : (ms : List Negation) (a : Plain) (at : Place) → H a → H (all_negated alphabet ms a at)
+  all_negated_hold [] a at h = h
+  all_negated_hold (m ∷ ms) a at h = kept.pair p.Less (whole alphabet m at) (all_negated alphabet ms a at) at (whole_holds m at) (all_negated_hold ms a at h)
+
+  character_holds : (r : Option (List Range)) (at : Place) → HoldsOfRanges S r → H (character r at)
+  character_holds None at h = kept.empty at
+  character_holds (Some r) at h = of_set r at h
+
+  item_holds : (b : Bool) (r : Option (List Range)) (at : Place) → HoldsOfRanges S r → H (cond b (starred (character r at) at) (character r at))
+  item_holds true r at h = kept.count (character r at) 0 None at (character_holds r at h)
+  item_holds false r at h = character_holds r at h
+
+  behind_hold : (a : Plain) (is : List Item) (at : Place) → H a → Each (λ (i : Item). HoldsOfRanges S i.ranges) is → H (behind a is at)
+  behind_hold a [] at h g = h
+  behind_hold a (i ∷ is) at h g = behind_hold (p.Pair p.Then a (item i at) at) is at (kept.pair p.Then a (item i at) at h (item_holds i.starred i.ranges at g.0)) g.1
+
+  row_holds : (is : List Item) (at : Place) → Each (λ (i : Item). HoldsOfRanges S i.ranges) is → H (row is at)
+  row_holds [] at g = kept.empty at
+  row_holds (i ∷ is) at g = behind_hold (item i at) is at (item_holds i.starred i.ranges at g.0) g.1
+
+  leaf_holds : (l : Leaf) (at : Place) → HoldsOfLeaf S l → H (leaf_plain l at)
+  leaf_holds (leaf.Set ranges) at h = of_set ranges at h
+  leaf_holds leaf.Null at h = kept.empty at
+  leaf_holds leaf.Nothing at h = kept.none at
+  leaf_holds (leaf.Row items) at h = row_holds items at h
+
+  named_holds : (known : List Plain) (i : ℕ) → Each H known → H (named (slice_get known i))
+  named_holds [] i h = kept.none no_place
+  named_holds (q ∷ known) zero h = h.0
+  named_holds (q ∷ known) (suc i) h = named_holds known i h.1
+
+  module _ (known : List Plain) (h_known : Each H known) where
+    abbrev Holds : Expression → Type 0
+    Holds e = H (plain alphabet known e)
+
+    abbrev HoldsLink : Link → Type 0
+    HoldsLink l = H (operand alphabet known l).plain
+
+    chained_hold : (a : Plain) (ls : List Link) (at : Place) → H a → Each HoldsLink ls → H (chained alphabet a (map (operand alphabet known) ls) at)
+    chained_hold a [] at h g = h
+    chained_hold a (l ∷ ls) at h g = chained_hold (joined alphabet (operand alphabet known l).join a (operand alphabet known l).plain at) ls at
+        (joined_hold (operand alphabet known l).join a (operand alphabet known l).plain at h g.0) g.1
+
+    of_leaf : (l : Leaf) (at : Place) → HoldsOfLeaf S l → Holds (made.Leaf l at)
+    of_leaf l at h = subst H (sym (ap (plain alphabet known) (sym (rolls-Leaf l at)) ∙ fold-roll-Expression Plain Operand (expression_step alphabet known) link_step (level.Leaf l at))) (leaf_holds l at h)
+
+    of_name : (i : ℕ) → Holds (made.Name i)
+    of_name i = subst H (sym (ap (plain alphabet known) (sym (rolls-Name i)) ∙ fold-roll-Expression Plain Operand (expression_step alphabet known) link_step (level.Name i))) (named_holds known i h_known)
+
+    of_negated : (ns : List Negation) (at : Place) (e : Expression) → Holds e → Holds (made.Negated ns e at)
+    of_negated ns at e h = subst H (sym (ap (plain alphabet known) (sym (rolls-Negated ns e at)) ∙ fold-roll-Expression Plain Operand (expression_step alphabet known) link_step (level.Negated ns e at)))
+        (all_negated_hold ns (plain alphabet known e) at h)
+
+    of_repeated : (rs : List Repetition) (at : Place) (e : Expression) → Holds e → Holds (made.Repeated e rs at)
+    of_repeated rs at e h = subst H (sym (ap (plain alphabet known) (sym (rolls-Repeated e rs at)) ∙ fold-roll-Expression Plain Operand (expression_step alphabet known) link_step (level.Repeated e rs at)))
+        (all_repeated_hold rs (plain alphabet known e) at h)
+
+    of_embedded : (ps : List Put) (at : Place) (e : Expression) → Holds e → Each Q ps → Holds (made.Embedded e ps at)
+    of_embedded ps at e h g = subst H (sym (ap (plain alphabet known) (sym (rolls-Embedded e ps at)) ∙ fold-roll-Expression Plain Operand (expression_step alphabet known) link_step (level.Embedded e ps at)))
+        (kept.series (plain alphabet known e) ps at h g)
+
+    of_chain : (ls : List Link) (at : Place) (e : Expression) → Holds e → Each HoldsLink ls → Holds (made.Chain e ls at)
+    of_chain ls at e h g = subst H (sym (ap (plain alphabet known) (sym (rolls-Chain e ls at)) ∙ fold-roll-Expression Plain Operand (expression_step alphabet known) link_step (level.Chain e ls at)))
+        (chained_hold (plain alphabet known e) ls at h g)
+
+    of_link : (j : Join) (e : Expression) → Holds e → HoldsLink (link j e)
+    of_link j e h = subst (λ (o : Operand). H o.plain) (sym (fold-roll-Link Plain Operand (expression_step alphabet known) link_step (record { join = j; operand = e }))) h
+
+    union_plain : (k : Scope) → k.alphabet ≡ alphabet → (B : Event → Type 0) → ((o : Written_Operand) (l : Leaf) → B (events.Leaf o) → leaf_read alphabet o ≡ Ok l → HoldsOfLeaf S l) → ((b : BuiltIn) → HoldsOfLeaf S (built_in_leaf alphabet b))
+        → ((m : Embedding) → OfRead Q (put_read k m)) → (u : Union) → Each B (events.union_events u) → OfRead Holds (union_told k u).read
+    union_plain k same B leaves built_ins puts u h =
+        union_holds k Holds HoldsLink Q B
+        (λ o l at b e. of_leaf l at (leaves o l b (subst (λ z. leaf_read z o ≡ Ok l) same e))) (λ b at. of_leaf (built_in_leaf k.alphabet b) at (subst (λ z. HoldsOfLeaf S (built_in_leaf z b)) (sym same) (built_ins b)))
+        of_name of_negated of_repeated of_embedded of_chain of_link puts u h
+
+-- ---- definitions
+
+-- such scopes have the alphabet, and read such embeddings
+abbrev pub IsScope : Alphabet → (Put → Type 0) → Scope → Type 0
+IsScope alphabet Q k = (k.alphabet ≡ alphabet) × ((m : Embedding) → OfRead Q (put_read k m))
+
+-- however a definition is read, its scope is such a one
+abbrev pub AreScopes : Alphabet → (Put → Type 0) → Scope → Type 0
+AreScopes alphabet Q k = (names : List (List ℕ)) (earlier : List Definition) (owner : List ℕ) → IsScope alphabet Q (scope_behind k names earlier owner)
+
+-- the events of the expressions of a statement are such
+abbrev pub HoldsOfEvents : (Event → Type 0) → Statement → Type 0
+HoldsOfEvents B (statement.Definition d) = Each B (events.union_events d.value)
+HoldsOfEvents B _ = Unit {0}
+
+module _ (alphabet : Alphabet) (H : Plain → Type 0) (Q : Put → Type 0) (S : List Range → Type 0) (kept : IsKept alphabet H Q) (of_set : (ranges : List Range) (at : Place) → S ranges → H (p.Set ranges at))
+    (B : Event → Type 0) (leaves : (o : Written_Operand) (l : Leaf) → B (events.Leaf o) → leaf_read alphabet o ≡ Ok l → HoldsOfLeaf S l) (built_ins : (b : BuiltIn) → HoldsOfLeaf S (built_in_leaf alphabet b)) where
+  -- behind definitions of which it holds, it holds of the value
+  abbrev HoldsOfValue : Value → Type 0
+  HoldsOfValue v = (known : List Plain) → Each H known → H (value_plain alphabet known v)
+
+  abbrev HoldsOfDefinition : Definition → Type 0
+  HoldsOfDefinition d = HoldsOfValue d.value
+
+  scanner_holds : (k : Scope) (s : Scanner) → OfRead HoldsOfValue (scanner_read k s)
+  scanner_holds k s =
+      of_then (λ q. Unit {0}) HoldsOfValue (pattern_read k (out-Scanner s).first) (λ q. and_then (each (pattern_read k) (out-Scanner s).rest) (λ qs. Ok (value.Scanner (q ∷ qs)))) (λ q e. tt)
+      (λ q u. of_then (λ qs. Unit {0}) HoldsOfValue (each (pattern_read k) (out-Scanner s).rest) (λ qs. Ok (value.Scanner (q ∷ qs))) (λ qs e. tt)
+      (λ qs w. of_ok HoldsOfValue (value.Scanner (q ∷ qs)) (λ known h. kept.none no_place)))
+
+  value_holds_by : (k : Scope) (u : Union) (s : Option Scanner) → IsScope alphabet Q k → Each B (events.union_events u) → OfRead HoldsOfValue (value_by k u s)
+  value_holds_by k u None scope b =
+      of_then (λ e. HoldsOfValue (value.Expression e)) HoldsOfValue (union_told k u).read (λ e. Ok (value.Expression e))
+      (λ e q known h. union_plain alphabet H Q S kept of_set known h k scope.0 B leaves built_ins scope.1 u b e q)
+      (λ e h. of_ok HoldsOfValue (value.Expression e) h)
+  value_holds_by k u (Some s) scope b = scanner_holds k s
+
+  definition_holds : (k : Scope) (d : Written) → IsScope alphabet Q k → Each B (events.union_events d.value) → OfRead HoldsOfDefinition (definition_read k d)
+  definition_holds k d scope b =
+      of_then HoldsOfValue HoldsOfDefinition (value_read k d.value) _ (value_holds_by k d.value (scanner_of d.value) scope b) (λ v h. of_ok HoldsOfDefinition _ h)
+
+  one_more : (k : Scope) (earlier : List Definition) (d : Written) (ds : List Definition) → AreScopes alphabet Q k → Each B (events.union_events d.value) → definition_behind k earlier d ≡ Ok ds → Each HoldsOfDefinition earlier → Each HoldsOfDefinition ds
+  one_more k earlier d ds scopes b e h =
+      let n = not_refused _ _ _ ds e in
+      let i = ok_then (definition_read (scope_behind k (names_of earlier) earlier d.name.text) d) (λ x. Ok (earlier ++ x ∷ [])) ds n.1 in
+      subst (Each HoldsOfDefinition) (same_ok (earlier ++ i.0 ∷ []) ds i.2)
+      (each_append HoldsOfDefinition earlier (i.0 ∷ []) h (definition_holds (scope_behind k (names_of earlier) earlier d.name.text) d (scopes (names_of earlier) earlier d.name.text) b i.0 i.1, tt))
+
+  no_more : (earlier ds : List Definition) → ◌≡◌ {A = Result (List Definition) ReadFault} (Ok earlier) (Ok ds) → Each HoldsOfDefinition earlier → Each HoldsOfDefinition ds
+  no_more earlier ds e h = subst (Each HoldsOfDefinition) (same_ok earlier ds e) h
+
+  by_statement : (k : Scope) (s : Statement) (earlier ds : List Definition) → AreScopes alphabet Q k → HoldsOfEvents B s → definitions_by k earlier s ≡ Ok ds → Each HoldsOfDefinition earlier → Each HoldsOfDefinition ds
+  by_statement k (statement.Definition d) earlier ds scopes b e h = one_more k earlier d ds scopes b e h
+  by_statement k (statement.Action a) earlier ds scopes b e h = no_more earlier ds e h
+  by_statement k (statement.Machine m) earlier ds scopes b e h = no_more earlier ds e h
+  by_statement k (statement.Include m) earlier ds scopes b e h = no_more earlier ds e h
+  by_statement k (statement.Alphtype m) earlier ds scopes b e h = no_more earlier ds e h
+  by_statement k (statement.Access m) earlier ds scopes b e h = no_more earlier ds e h
+  by_statement k (statement.Variable m) earlier ds scopes b e h = no_more earlier ds e h
+  by_statement k (statement.Write m) earlier ds scopes b e h = no_more earlier ds e h
+
+  by_case : (b : Bool) (k : Scope) (s : Statement) (earlier ds : List Definition) → AreScopes alphabet Q k → HoldsOfEvents B s → (if b then definitions_by k earlier s else Ok earlier) ≡ Ok ds → Each HoldsOfDefinition earlier → Each HoldsOfDefinition ds
+  by_case true k s earlier ds scopes b e h = by_statement k s earlier ds scopes b e h
+  by_case false k s earlier ds scopes b e h = no_more earlier ds e h
+
+  definitions_hold : (k : Scope) (machine : List ℕ) (steps : List Step) (ds : List Definition) → AreScopes alphabet Q k → Each (λ (s : Step). HoldsOfEvents B s.statement) steps → definitions_of k machine steps ≡ Ok ds → Each HoldsOfDefinition ds
+  definitions_hold k machine steps ds scopes b e =
+      along_keeps (Each HoldsOfDefinition) (λ (s : Step). HoldsOfEvents B s.statement) (definitions_behind k machine) (λ earlier s t u q h. by_case (is_of machine s) k s.statement earlier t scopes u q h) [] steps ds b e tt
+
+  plains_hold : (known : List Plain) (ds : List Definition) → Each H known → Each HoldsOfDefinition ds → Each H (plains_behind alphabet known ds)
+  plains_hold known [] h g = h
+  plains_hold known (d ∷ ds) h g =
+      let v = value_plain alphabet known d.value in
+      plains_hold (known ++ v ∷ []) ds (each_append H known (v ∷ []) h (g.0 known h, tt)) g.1
+
+  meanings_hold : (ds : List Definition) (ps : List Plain) → Each H ps → Each (λ (m : Meaning). H m.plain) (meanings_of ds ps)
+  meanings_hold [] ps h = tt
+  meanings_hold (d ∷ ds) [] h = tt
+  meanings_hold (d ∷ ds) (q ∷ ps) h = (h.0, meanings_hold ds ps h.1)
+
+  -- it holds of what each definition stands for
+  pub all_meanings : (k : Scope) (machine : List ℕ) (steps : List Step) (ds : List Definition) → AreScopes alphabet Q k → Each (λ (s : Step). HoldsOfEvents B s.statement) steps → definitions_of k machine steps ≡ Ok ds
+      → Each (λ (m : Meaning). H m.plain) (meanings_of ds (plains alphabet ds))
+  all_meanings k machine steps ds scopes b e = meanings_hold ds (plains alphabet ds) (plains_hold [] ds tt (definitions_hold k machine steps ds scopes b e))

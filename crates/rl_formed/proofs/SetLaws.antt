@@ -1,0 +1,97 @@
+-- The sets of entries are few ranges of keys of the alphabet.
+use Rattle.std.proofs.Common.{◌≡◌, ℕ, ◌≤◌, Bool, true, false, cond, List, [], ◌∷◌, length, Option, None, Some, Ok, refl, arith}
+use Rattle.std.specs.Prelude.{All, MatchOption}
+use Rattle.std.specs.List.{flat_map}
+use Rattle.rl_types.specs.declared.alphabet.Alphabet.{Alphabet}
+use Rattle.rl_types.specs.declared.alphabet.Alphabet.TheVariants.{Char, UnsignedChar}
+use Rattle.rl_types.specs.declared.numbers.ActionId.{ActionId}
+use Rattle.rl_types.specs.KeyRange.{Range}
+use Rattle.rl_automata.specs.Refused.{sets_in}
+use Rattle.rl_model.specs.Counts.{trees_of}
+use Rattle.rl_model.specs.WellFormed.{IsInAlphabet}
+use Rattle.rl_draft.specs.declared.draft.Definition.{Definition}
+use Rattle.rl_draft.specs.declared.expression.Item.{Item}
+use Rattle.rl_draft.specs.declared.expression.Leaf.{Leaf}
+use Rattle.rl_draft.specs.declared.expression.Leaf.TheVariants as leaf
+use Rattle.rl_leaves.specs.BuiltIns.{built_in_leaf}
+use Rattle.rl_leaves.specs.Forms.{AreRanges, IsItem, IsLeaf}
+use Rattle.rl_leaves.proofs.BuiltInLaws.{built_in_form}
+use Rattle.rl_steps.specs.declared.step.Step.{Step}
+use Rattle.rl_names.specs.Drafts.{definitions_of}
+use Rattle.rl_names.specs.Events.{Event}
+use Rattle.rl_names.specs.Events as events
+use Rattle.rl_names.specs.Expressions.{Scope}
+use Rattle.rl_rewrite.specs.Entries.{Made, Meaning, meanings_of, is_entry, entry, entries, made_by, conditions_by}
+use Rattle.rl_rewrite.specs.Plain as p
+use Rattle.rl_rewrite.specs.Plain.{Plain, plains}
+use Rattle.rl_rewrite.specs.Walk.{walk, begun}
+use Rattle.rl_rewrite.proofs.SetLaws.{AreSets, walk_sets}
+use Rattle.rl_form.proofs.Lists.{Each, each_append, each, all}
+use Rattle.rl_formed.specs.Laws.{HasBytes}
+use Rattle.rl_formed.proofs.LeafLaws.{leaf_form}
+use Rattle.rl_formed.proofs.PlainLaws.{IsKept, HoldsOfRanges, HoldsOfLeaf, HoldsOfEvents, all_meanings}
+
+-- the bytes of a leaf's text are bytes
+abbrev pub IsOfBytes : Event → Type 0
+IsOfBytes (events.Leaf o) = HasBytes o
+IsOfBytes _ = Unit {0}
+
+module _ (alphabet : Alphabet) where
+  -- few ranges, of keys of the alphabet
+  abbrev pub IsFew : List Range → Type 0
+  IsFew ranges = (length ranges ≤ 256) × All (IsInAlphabet alphabet) ranges
+
+  few_of : (ranges : List Range) → AreRanges alphabet ranges → IsFew ranges
+  few_of ranges h = (h.few, h.within)
+
+  ranges_few : (o : Option (List Range)) → MatchOption o (Unit {0}) (AreRanges alphabet) → HoldsOfRanges IsFew o
+  ranges_few None h = tt
+  ranges_few (Some ranges) h = few_of ranges h
+
+  items_few : (items : List Item) → Each (IsItem alphabet) items → Each (λ (i : Item). HoldsOfRanges IsFew i.ranges) items
+  items_few [] h = tt
+  items_few (i ∷ is) h = (ranges_few i.ranges h.0, items_few is h.1)
+
+  leaf_few : (l : Leaf) → IsLeaf alphabet l → HoldsOfLeaf IsFew l
+  leaf_few (leaf.Set ranges) h = few_of ranges h
+  leaf_few leaf.Null h = tt
+  leaf_few leaf.Nothing h = tt
+  leaf_few (leaf.Row items) h = items_few items (each (IsItem alphabet) items h)
+
+  kept : IsFew (p.any alphabet) → IsKept alphabet (AreSets IsFew) (λ q. Unit {0})
+  kept any = record {
+    empty = λ at. tt;
+    none = λ at. tt;
+    every = λ at. any;
+    pair = λ q a b at h g. (h, g);
+    guarded = λ g a b at h k. (h, k);
+    longest = λ a at h. h;
+    count = λ a least most at h. h;
+    series = λ a ps at h g. h;
+  }
+
+  made_few : (b : Bool) (cs : List ActionId) (m : Meaning) → AreSets IsFew m.plain → Each (λ (x : Made). Each IsFew (flat_map sets_in (trees_of x.root))) (cond b (entry cs m ∷ []) [])
+  made_few true cs m h = (each_append IsFew (sets_in (walk m.plain (begun cs)).0.node) [] (each IsFew (sets_in (walk m.plain (begun cs)).0.node) (walk_sets IsFew m.plain (begun cs) h)) tt, tt)
+  made_few false cs m h = tt
+
+  entries_few : (cs : List ActionId) (ms : List Meaning) → Each (λ (m : Meaning). AreSets IsFew m.plain) ms → Each (λ (x : Made). Each IsFew (flat_map sets_in (trees_of x.root))) (entries cs ms)
+  entries_few cs [] h = tt
+  entries_few cs (m ∷ ms) h =
+      each_append (λ (x : Made). Each IsFew (flat_map sets_in (trees_of x.root))) (made_by cs m) (entries (conditions_by cs m) ms) (made_few (is_entry m.sign) cs m h.0) (entries_few (conditions_by cs m) ms h.1)
+
+  all_few_by : IsFew (p.any alphabet) → (k : Scope) (machine : List ℕ) (steps : List Step) (ds : List Definition) → k.alphabet ≡ alphabet → Each (λ (s : Step). HoldsOfEvents IsOfBytes s.statement) steps → definitions_of k machine steps ≡ Ok ds
+      → Each (λ (x : Made). Each IsFew (flat_map sets_in (trees_of x.root))) (entries [] (meanings_of ds (plains alphabet ds)))
+  all_few_by any k machine steps ds same bytes e =
+      entries_few [] (meanings_of ds (plains alphabet ds))
+      (all_meanings alphabet (AreSets IsFew) (λ q. Unit {0}) IsFew (kept any) (λ ranges at h. h) IsOfBytes (λ o l b r. leaf_few l (leaf_form alphabet o l b r)) (λ b. leaf_few (built_in_leaf alphabet b) (built_in_form alphabet b))
+      k machine steps ds (λ names earlier owner. (same, (λ m a r. tt))) bytes e)
+
+-- every key of an alphabet is one of its keys
+any_few : (alphabet : Alphabet) → IsFew alphabet (p.any alphabet)
+any_few Char = (omega arith, all (IsInAlphabet Char) (p.any Char) (refl, tt))
+any_few UnsignedChar = (omega arith, all (IsInAlphabet UnsignedChar) (p.any UnsignedChar) (refl, tt))
+
+-- the sets of all entries
+pub all_few : (alphabet : Alphabet) (k : Scope) (machine : List ℕ) (steps : List Step) (ds : List Definition) → k.alphabet ≡ alphabet → Each (λ (s : Step). HoldsOfEvents IsOfBytes s.statement) steps → definitions_of k machine steps ≡ Ok ds
+    → Each (λ (x : Made). Each (IsFew alphabet) (flat_map sets_in (trees_of x.root))) (entries [] (meanings_of ds (plains alphabet ds)))
+all_few alphabet k machine steps ds same bytes e = all_few_by alphabet (any_few alphabet) k machine steps ds same bytes e

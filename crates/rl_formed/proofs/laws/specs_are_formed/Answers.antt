@@ -1,0 +1,26 @@
+use Rattle.rl_formed.proofs.DraftLaws.{are_quiet, have_own_actions, have_own_entries, have_plain_entries, have_few_actions, have_few_entries, embed_own_actions, have_own_conditions}
+use Rattle.rl_formed.proofs.laws.specs_are_formed.Goals as goal
+
+pub returns-clause-quiet : goal.returns-clause-quiet
+returns-clause-quiet c = are_quiet
+
+pub returns-clause-actions : goal.returns-clause-actions
+returns-clause-actions c = have_own_actions
+
+pub returns-clause-entries : goal.returns-clause-entries
+returns-clause-entries c = have_own_entries
+
+pub returns-clause-plain : goal.returns-clause-plain
+returns-clause-plain c = have_plain_entries
+
+pub returns-clause-few_actions : goal.returns-clause-few_actions
+returns-clause-few_actions c = have_few_actions
+
+pub returns-clause-few_entries : goal.returns-clause-few_entries
+returns-clause-few_entries c = have_few_entries
+
+pub returns-clause-embedded : goal.returns-clause-embedded
+returns-clause-embedded c = embed_own_actions
+
+pub returns-clause-conditions : goal.returns-clause-conditions
+returns-clause-conditions c = have_own_conditions

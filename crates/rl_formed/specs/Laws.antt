@@ -1,0 +1,144 @@
+-- What holds of each draft, and of the entries that it is rewritten to.
+use Rattle.std.specs.Prelude.{◌≡◌, ℕ, ◌≤◌, ◌<◌, ◌^◌, IsTrue, List, [], map, length, None, Ok, All}
+use Rattle.rl_types.specs.declared.numbers.ActionId.{ActionId}
+use Rattle.rl_types.specs.declared.numbers.Place.{Place}
+use Rattle.std.specs.List.{flat_map}
+use Rattle.rl_types.specs.KeyRange.{Range}
+use Rattle.rl_grammar.specs.declared.syntax.Operand.{Operand, out-Operand}
+use Rattle.rl_grammar.specs.declared.syntax.Operand.TheOpen as operand
+use Rattle.rl_grammar.specs.declared.syntax.Statement.{Statement}
+use Rattle.rl_grammar.specs.declared.syntax.Statement.TheVariants as statement
+use Rattle.rl_arrays.specs.Names.{is_name, is_action_name}
+use Rattle.rl_automata.specs.Nodes.{Node}
+use Rattle.rl_automata.specs.Refused.{AreDifferent, sets_in}
+use Rattle.rl_model.specs.declared.spec.ActionDef.{ActionDef}
+use Rattle.rl_model.specs.declared.spec.Write.{Write}
+use Rattle.rl_model.specs.Counts.{actions_in, trees_of}
+use Rattle.rl_model.specs.WellFormed.{IsNumber, IsInAlphabet}
+use Rattle.rl_steps.specs.declared.step.Step.{Step}
+use Rattle.rl_draft.specs.declared.draft.Draft.{Draft}
+use Rattle.rl_names.specs.Drafts.{draft_of}
+use Rattle.rl_names.specs.Events.{Event, union_events}
+use Rattle.rl_names.specs.Events as event
+use Rattle.rl_names.specs.Frames.{machines_of}
+use Rattle.rl_names.specs.Names.{names_fault}
+use Rattle.rl_names.specs.Values.{Layer}
+use Rattle.rl_rewrite.specs.Entries.{Made, meanings, entries, all_conditions}
+use Rattle.rl_form.specs.Form.{IsPlain}
+
+-- no action has a control statement
+abbrev pub IsQuiet : Draft → Type 0
+IsQuiet draft = All (λ (a : ActionDef). a.statements ≡ []) draft.actions
+
+-- no two actions have one name
+abbrev pub HasOwnActions : Draft → Type 0
+HasOwnActions draft = AreDifferent (map (λ (a : ActionDef). a.name) draft.actions)
+
+-- no two entries have one name
+abbrev pub HasOwnEntries : Draft → Type 0
+HasOwnEntries draft = AreDifferent (map (λ (m : Made). m.name) (entries [] (meanings draft)))
+
+-- no entry is a scanner
+abbrev pub HasPlainEntries : Draft → Type 0
+HasPlainEntries draft = All (λ (m : Made). IsPlain m.root) (entries [] (meanings draft))
+
+abbrev pub HasFewActions : Draft → Type 0
+HasFewActions draft = length draft.actions ≤ 65535
+
+abbrev pub HasFewEntries : Draft → Type 0
+HasFewEntries draft = length (entries [] (meanings draft)) ≤ 65535
+
+-- each action that an entry embeds is an action of the machine
+abbrev pub EmbedsOwnActions : Draft → Type 0
+EmbedsOwnActions draft = All (λ (m : Made). All (λ (t : Node). All (IsNumber (length draft.actions)) (actions_in t)) (trees_of m.root)) (entries [] (meanings draft))
+
+-- each condition is an action of the machine
+abbrev pub HasOwnConditions : Draft → Type 0
+HasOwnConditions draft = All (λ (a : ActionId). IsNumber (length draft.actions) a.0) (all_conditions [] (meanings draft))
+
+-- it holds of every draft that statements are read as
+abbrev pub OfDrafts : (Draft → Type 0) → Type 0
+OfDrafts P = (steps : List Step) (machine : List ℕ) (draft : Draft) → draft_of steps machine ≡ Ok draft → P draft
+
+-- it holds of every draft that statements are read as in which no fault of names is found
+abbrev pub OfNamed : (Draft → Type 0) → Type 0
+OfNamed P = (steps : List Step) (machine : List ℕ) (draft : Draft) → names_fault steps ≡ None → draft_of steps machine ≡ Ok draft → P draft
+
+-- ---- what tokens say
+
+-- each number of the place fits 64 bits
+abbrev pub Fits : Place → Type 0
+Fits p = (p.file < 2 ^ 64) × (p.line < 2 ^ 64) × (p.col < 2 ^ 64)
+
+abbrev pub IsByte : ℕ → Type 0
+IsByte b = b < 256
+
+-- the bytes of its text are bytes
+abbrev pub LayerBytes : Layer → Type 0
+LayerBytes (operand.Literal w) = All IsByte w.text
+LayerBytes (operand.RegularExpression w) = All IsByte w.text
+LayerBytes _ = Unit {0}
+
+abbrev pub HasBytes : Operand → Type 0
+HasBytes o = LayerBytes (out-Operand o)
+
+abbrev pub IsUsedAsWritten : Event → Type 0
+IsUsedAsWritten (event.Leaf o) = HasBytes o
+IsUsedAsWritten (event.Code w) = Fits w.place
+IsUsedAsWritten _ = Unit {0}
+
+-- its names are names, and its bytes are bytes, as those that tokens have
+abbrev pub IsWritten : Statement → Type 0
+IsWritten (statement.Machine m) = IsTrue (is_name m.name.text)
+IsWritten (statement.Action a) = IsTrue (is_name a.name.text)
+IsWritten (statement.Definition d) = IsTrue (is_name d.name.text) × All IsUsedAsWritten (union_events d.value)
+IsWritten _ = Unit {0}
+
+abbrev pub AreWritten : List Step → Type 0
+AreWritten steps = All (λ (s : Step). IsWritten s.statement) steps
+
+-- each entry has a name
+abbrev pub HasNamedEntries : Draft → Type 0
+HasNamedEntries draft = All (λ (m : Made). IsTrue (is_name m.name)) (entries [] (meanings draft))
+
+-- each action has the name of one
+abbrev pub HasNamedActions : Draft → Type 0
+HasNamedActions draft = All (λ (a : ActionDef). IsTrue (is_action_name a.name)) draft.actions
+
+-- the sets of its entries are few ranges, of keys of the alphabet
+abbrev pub HasSmallSets : Draft → Type 0
+HasSmallSets draft = All (λ (m : Made). All (λ (ranges : List Range). (length ranges ≤ 256) × All (IsInAlphabet draft.alphabet) ranges) (flat_map sets_in (trees_of m.root))) (entries [] (meanings draft))
+
+-- it holds of every draft that such statements are read as
+abbrev pub OfWritten : (Draft → Type 0) → Type 0
+OfWritten P = (steps : List Step) (machine : List ℕ) (draft : Draft) → AreWritten steps → draft_of steps machine ≡ Ok draft → P draft
+
+-- each machine has a name
+abbrev pub HaveNamedMachines : Type 0
+HaveNamedMachines = (steps : List Step) → AreWritten steps → All (λ (m : List ℕ). IsTrue (is_name m)) (machines_of steps)
+
+-- ---- files
+
+abbrev pub IsUsedIn : ℕ → Event → Type 0
+IsUsedIn count (event.Code w) = w.place.file < count
+IsUsedIn count _ = Unit {0}
+
+-- its code, and the statement itself where it is a `write`, stand in one of so many files
+abbrev pub StandsIn : ℕ → Statement → Type 0
+StandsIn count (statement.Action a) = a.code.place.file < count
+StandsIn count (statement.Definition d) = All (IsUsedIn count) (union_events d.value)
+StandsIn count (statement.Write w) = w.start.file < count
+StandsIn count _ = Unit {0}
+
+abbrev pub StandIn : ℕ → List Step → Type 0
+StandIn count steps = All (λ (s : Step). StandsIn count s.statement) steps
+
+abbrev pub HasActionsIn : ℕ → Draft → Type 0
+HasActionsIn count draft = All (λ (a : ActionDef). a.place.file < count) draft.actions
+
+abbrev pub HasWritesIn : ℕ → Draft → Type 0
+HasWritesIn count draft = All (λ (w : Write). w.place.file < count) draft.writes
+
+-- it holds of every draft that statements in so many files are read as
+abbrev pub OfFiles : (ℕ → Draft → Type 0) → Type 0
+OfFiles P = (count : ℕ) (steps : List Step) (machine : List ℕ) (draft : Draft) → StandIn count steps → draft_of steps machine ≡ Ok draft → P count draft
