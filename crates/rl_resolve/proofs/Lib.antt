@@ -5,3 +5,4 @@ pub mod AnswerLaws
 pub mod ResolveLaws
 pub mod LimitLaws
 pub mod InstanceLaws
+pub mod FormLaws

@@ -258,3 +258,19 @@ accepted_within_limits which u drafts h =
     let due = refusals.told u.files (limit_fault u.steps (passed i.0)) in
     let none = none_found u.files (first_in_text u.steps (passed i.0)) (ok_none due (Ok i.0) drafts i.2) in
     subst (λ z. passed z ≡ []) (accepted_same due i.0 drafts i.2) (no_limit_is_missed u.steps i.0 (drafted_as which u i.0 i.1) none)
+
+-- and its drafts are read from its statements
+pub accepted_drafts : (which : Runs) (u : Unrolled) (drafts : List Draft) → outcome which u ≡ Ok drafts → drafts_of u.steps ≡ Ok drafts
+accepted_drafts which u drafts h =
+    let i = ok_next (drafted which u) (within u) drafts h in
+    subst (λ z. drafts_of u.steps ≡ Ok z) (accepted_same (refusals.told u.files (limit_fault u.steps (passed i.0))) i.0 drafts i.2) (drafted_as which u i.0 i.1)
+
+no_fault : (files : List (List ℕ)) (o : Option ReadFault) → refusals.told files o ≡ None → o ≡ None
+no_fault files None h = refl
+no_fault files (Some e) h = absurd (some_or_none _ h)
+
+-- in which no fault of names is found
+pub accepted_names : (which : Runs) (u : Unrolled) (drafts : List Draft) → outcome which u ≡ Ok drafts → names_fault u.steps ≡ None
+accepted_names which u drafts h =
+    let i = ok_next (drafted which u) (within u) drafts h in
+    no_fault u.files (names_fault u.steps) (ok_none (refusals.told u.files (names_fault u.steps)) _ i.0 i.1)

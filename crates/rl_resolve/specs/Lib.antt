@@ -5,3 +5,4 @@ pub mod Machines
 pub mod Resolving
 pub mod Instances
 pub mod Answers
+pub mod Forms

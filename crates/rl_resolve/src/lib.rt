@@ -3,6 +3,7 @@
 
 mod answer;
 mod drafted;
+mod forms;
 mod instances;
 mod instantiated;
 mod limits;
@@ -14,6 +15,7 @@ mod source;
 mod spec;
 
 pub use answer::{ResolveFault, Runs};
+pub use forms::specs_are_formed;
 pub use source::resolve;
 
 #[cfg(test)]
