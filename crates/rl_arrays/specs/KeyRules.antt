@@ -2,7 +2,7 @@
 use Rattle.std.specs.Prelude.{◌≡◌, ℕ, zero, suc, ◌+◌, ◌*◌, ◌<◌, IsTrue, ℤ, pos, negsuc, ◌+ℤ◌, ◌<ℤ◌, ◌≤ℤ◌, List, [], ◌∷◌, Option, None, IfSome, IsSomeAnd, slice_get}
 use Rattle.rl_types.specs.Alphabet.{has_key}
 use Rattle.rl_types.specs.declared.alphabet.Alphabet.{Alphabet}
-use Rattle.rl_types.specs.declared.alphabet.Alphabet.TheVariants.{Char, UnsignedChar}
+use Rattle.rl_types.specs.declared.alphabet.Alphabet.TheVariants.{Char, UnsignedChar, Short, UnsignedShort, Int, UnsignedInt}
 use Rattle.rl_arrays.specs.declared.arrays.Arrays.{Arrays}
 use Rattle.rl_arrays.specs.Words.{IfAt, sum_before}
 use Rattle.rl_arrays.specs.Sizes.{states, keys_of, keys_end, IsClosing}
@@ -10,7 +10,7 @@ use Rattle.rl_arrays.specs.Sizes.{states, keys_of, keys_end, IsClosing}
 -- the alphabet with this number
 abbrev pub alphabet_of : ℤ → Option Alphabet
 alphabet_of (negsuc n) = None
-alphabet_of (pos n) = slice_get (Char ∷ UnsignedChar ∷ []) n
+alphabet_of (pos n) = slice_get (Char ∷ UnsignedChar ∷ Short ∷ UnsignedShort ∷ Int ∷ UnsignedInt ∷ []) n
 
 -- the place is that of single key p of the state; a state's keys begin behind those of the states before it
 pub record IsSingle (a : Arrays) (s p place : ℕ) : Type 0 where

@@ -9,7 +9,7 @@ use Rattle.rl_arrays.specs.Words.{natural, number_at, IfAt, IsAt, IsBetween, sum
 use Rattle.rl_arrays.specs.Names.{is_name, is_action_name}
 use Rattle.rl_arrays.specs.Lists.{left_at, IsList, members}
 use Rattle.rl_arrays.specs.Statements.{kind_of, names_entry, outer_kinds, up_to_end}
-use Rattle.rl_arrays.specs.Sizes.{states, conditions, keys_of, cells_of, entries_of, statements_of, cells_end, entries_end, IsClosing, IsEntryOf}
+use Rattle.rl_arrays.specs.Sizes.{states, conditions, keys_of, uses_of, entries_of, statements_of, uses_end, shared_cells, cells_end, entries_end, IsClosing, IsEntryOf}
 use Rattle.rl_arrays.specs.KeyRules.{KeySays}
 
 -- the number is that of an action, a state, an entry
@@ -45,6 +45,12 @@ pub record LengthSays (a : Arrays) (s : ℕ) (n : ℤ) : Type 0 where
   pub positive : pos 0 ≤ℤ n
   pub error : s ≡ 0 → n ≡ pos 0
   pub closed : HasKind a s 4 4 → n ≡ pos 0
+
+-- a use is of a cell that there is
+pub record UseSays (a : Arrays) (use : ℕ) (cell : ℤ) : Type 0 where
+  pub closing : IsClosing (uses_end a) use → cell ≡ pos 0
+  pub positive : pos 0 ≤ℤ cell
+  pub known : (IsClosing (uses_end a) use → ⊥) → cell <ℤ pos (shared_cells a)
 
 -- the asked conditions of a cell exist
 pub record AskSays (a : Arrays) (c : ℕ) (asks : ℤ) : Type 0 where
@@ -127,7 +133,8 @@ pub record CountSays (a : Arrays) (k : ℕ) (count : ℤ) : Type 0 where
   pub from : (s : ℕ) → IsListed a a.from_lists s k → count ≡ pos 0
   pub to : (s : ℕ) → IsListed a a.to_lists s k → count ≡ pos 0
   pub inner : (s e : ℕ) → IsEntryOf a s e → HasKind a s 1 3 → IsListed a a.trans_lists e k → count ≡ pos 0
-  pub few : let first = number_at a.stmt_firsts k in length (up_to_end (outer_kinds (take (natural count) (drop first a.stmt_kinds)) (take (natural count) (drop first a.stmt_outer)))) ≤ 4
+  pub few : let first = number_at a.stmt_firsts k in
+      length (up_to_end (outer_kinds (take (natural count) (drop first a.stmt_kinds)) (take (natural count) (drop first a.stmt_outer)))) ≤ 4
 
 pub record StatementSays (a : Arrays) (i : ℕ) (kind : ℤ) : Type 0 where
   pub none : i ≡ 0 → kind ≡ pos 0
@@ -149,11 +156,11 @@ pub record BaseSays (a : Arrays) (i : ℕ) (base : ℤ) : Type 0 where
 abbrev pub start_entry : Arrays → ℕ
 start_entry a = unwrap_or (position (bytes_eq (codes "main")) a.entry_names) 1
 
--- the lines before the arrays
+-- the lines before the arrays; a state is compared only where the element that has it is there
 pub record HeadRight (a : Arrays) : Type 0 where
   pub name : IsTrue (is_name a.name)
   pub start : IfAt a.entry_states (start_entry a) (λ state. a.start ≡ state)
-  pub alphabet : IsBetween 0 1 a.alphabet
+  pub alphabet : IsBetween 0 5 a.alphabet
   pub first_final : (pos 1 ≤ℤ a.first_final) × (a.first_final ≤ℤ pos (states a))
 
 -- an entry's state is plain or a scanner's start; what is wrong in the lines before the arrays is told at element 0
@@ -170,7 +177,8 @@ Says a the.KeyOffsets i = IfAt a.key_offsets i (IsSum (keys_of a) i)
 Says a the.TransKeys i = IfAt a.trans_keys i (KeySays a i)
 Says a the.SingleLengths i = IfAt a.single_lengths i (LengthSays a i)
 Says a the.RangeLengths i = IfAt a.range_lengths i (LengthSays a i)
-Says a the.CellOffsets i = IfAt a.cell_offsets i (IsSum (cells_of a) i)
+Says a the.CellOffsets i = IfAt a.cell_offsets i (IsSum (uses_of a) i)
+Says a the.CellUses i = IfAt a.cell_uses i (UseSays a i)
 Says a the.CellAsks i = IfAt a.cell_asks i (AskSays a i)
 Says a the.CellEntries i = IfAt a.cell_entries i (CellEntrySays a i)
 Says a the.TransTargs i = IfAt a.trans_targs i (TargetSays a i)

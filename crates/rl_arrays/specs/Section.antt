@@ -1,11 +1,12 @@
--- The text of a data section, version 1: lines of C, each with its newline.
-use Rattle.std.specs.Prelude.{ℕ, ℤ, pos, List, [], ◌∷◌, ◌++◌, map, drop, codes}
+-- The text of a data section: lines of C, each with its newline.
+use Rattle.std.specs.Prelude.{ℕ, Bool, true, false, not, if◌then◌else◌, filter, ℤ, pos, List, [], ◌∷◌, ◌++◌, map, drop, codes}
 use Rattle.std.specs.List.{flat_map, zip}
 use Rattle.std.specs.Fmt.{signed_decimal}
 use Rattle.rl_arrays.specs.declared.arrays.Arrays.{Arrays}
 use Rattle.rl_arrays.specs.declared.arrays.ArrayName.{ArrayName}
 use Rattle.rl_arrays.specs.declared.arrays.ArrayName.TheVariants as the
 use Rattle.rl_arrays.specs.declared.arrays.TheConstants.{ORDER}
+use Rattle.rl_arrays.specs.Sizes.{shares}
 
 -- texts with a comma and a blank between them
 abbrev pub comma : List ℕ → List ℕ
@@ -27,6 +28,7 @@ word the.TransKeys = codes "trans_keys"
 word the.SingleLengths = codes "single_lengths"
 word the.RangeLengths = codes "range_lengths"
 word the.CellOffsets = codes "cell_offsets"
+word the.CellUses = codes "cell_uses"
 word the.CellAsks = codes "cell_asks"
 word the.CellEntries = codes "cell_entries"
 word the.TransTargs = codes "trans_targs"
@@ -57,6 +59,7 @@ ctype the.TransKeys = codes "const long long"
 ctype the.SingleLengths = codes "const int"
 ctype the.RangeLengths = codes "const int"
 ctype the.CellOffsets = codes "const int"
+ctype the.CellUses = codes "const int"
 ctype the.CellAsks = codes "const int"
 ctype the.CellEntries = codes "const int"
 ctype the.TransTargs = codes "const int"
@@ -87,6 +90,7 @@ elements a the.TransKeys = map signed_decimal a.trans_keys
 elements a the.SingleLengths = map signed_decimal a.single_lengths
 elements a the.RangeLengths = map signed_decimal a.range_lengths
 elements a the.CellOffsets = map signed_decimal a.cell_offsets
+elements a the.CellUses = map signed_decimal a.cell_uses
 elements a the.CellAsks = map signed_decimal a.cell_asks
 elements a the.CellEntries = map signed_decimal a.cell_entries
 elements a the.TransTargs = map signed_decimal a.trans_targs
@@ -109,8 +113,12 @@ elements a the.CondNames = map quoted a.cond_names
 elements a the.EntryNames = map quoted a.entry_names
 elements a the.EntryStates = map signed_decimal a.entry_states
 
-abbrev pub first_line : List ℕ → List ℕ
-first_line name = codes "/* rl-data 1 " ++ (name ++ codes " */")
+-- the version, as it is printed
+abbrev pub version_word : Arrays → List ℕ
+version_word a = if shares a then codes "2" else codes "1"
+
+abbrev pub first_line : List ℕ → List ℕ → List ℕ
+first_line version name = codes "/* rl-data " ++ (version ++ (codes " " ++ (name ++ codes " */")))
 
 abbrev pub last_line : List ℕ → List ℕ
 last_line name = codes "/* rl-end " ++ (name ++ codes " */")
@@ -145,17 +153,27 @@ entries a = zip (drop 1 a.entry_names) (drop 1 a.entry_states)
 
 abbrev pub head_lines : Arrays → List (List ℕ)
 head_lines a =
-    first_line a.name
+    first_line (version_word a) a.name
     ∷ number_line a.name (codes "start") a.start
     ∷ number_line a.name (codes "first_final") a.first_final
     ∷ number_line a.name (codes "error") (pos 0)
     ∷ number_line a.name (codes "alphabet") a.alphabet
     ∷ []
 
+-- it is the array of uses
+abbrev pub is_uses : ArrayName → Bool
+is_uses the.CellUses = true
+is_uses _ = false
+
+-- the arrays that are printed: version 1 has no uses
+abbrev pub printed : Bool → List ArrayName
+printed true = ORDER
+printed false = filter (λ array. not (is_uses array)) ORDER
+
 -- the lines of a section, without their newlines
 unfoldable pub section_lines : Arrays → List (List ℕ)
 section_lines a =
-    head_lines a ++ (map (entry_line a.name) (entries a) ++ (map (λ array. array_line a.name array (elements a array)) ORDER ++ (last_line a.name ∷ [])))
+    head_lines a ++ (map (entry_line a.name) (entries a) ++ (map (λ array. array_line a.name array (elements a array)) (printed (shares a)) ++ (last_line a.name ∷ [])))
 
 abbrev pub line_text : List ℕ → List ℕ
 line_text line = line ++ (10 ∷ [])

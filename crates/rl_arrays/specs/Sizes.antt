@@ -1,6 +1,7 @@
 -- How many states, keys, cells, entries and statements arrays speak of.
-use Rattle.std.specs.Prelude.{◌≡◌, ℕ, ◌+◌, ◌-◌, ◌^◌, ◌<◌, max, min, ℤ, pos, ◌+ℤ◌, ◌≤ℤ◌, ◌<ℤ◌, Option, Some, None, IsSomeAnd, length, slice_get, option_and_then, count_ones}
+use Rattle.std.specs.Prelude.{◌≡◌, ℕ, ◌+◌, ◌-◌, ◌^◌, ◌<◌, max, min, ℤ, pos, ◌+ℤ◌, ◌≤ℤ◌, ◌<ℤ◌, Option, Some, None, IsSomeAnd, length, slice_get, option_and_then, count_ones, if◌then◌else◌, Bool}
 use Rattle.std.specs.Option.{option_map}
+use Rattle.std.specs.Ordering.{int_eq}
 use Rattle.rl_arrays.specs.declared.arrays.Arrays.{Arrays}
 use Rattle.rl_arrays.specs.declared.arrays.ArrayName.{ArrayName}
 use Rattle.rl_arrays.specs.declared.arrays.ArrayName.TheVariants as the
@@ -18,9 +19,13 @@ conditions a = length a.cond_names - 1
 abbrev pub keys_of : Arrays → ℕ → Option ℤ
 keys_of a s = plus (slice_get a.single_lengths s) (plus (slice_get a.range_lengths s) (slice_get a.range_lengths s))
 
--- how many cells a state has: one a single key, one a range
-abbrev pub cells_of : Arrays → ℕ → Option ℤ
-cells_of a s = plus (slice_get a.single_lengths s) (slice_get a.range_lengths s)
+-- keys share cells
+abbrev pub shares : Arrays → Bool
+shares a = int_eq a.version (pos 2)
+
+-- how many cells the keys of a state use: one a single key, one a range
+abbrev pub uses_of : Arrays → ℕ → Option ℤ
+uses_of a s = plus (slice_get a.single_lengths s) (slice_get a.range_lengths s)
 
 -- how many entries a cell has: one for each truths of its asked conditions
 abbrev pub entries_of : Arrays → ℕ → Option ℤ
@@ -30,12 +35,19 @@ entries_of a c = option_map (λ asks. pos (2 ^ count_ones (natural asks))) (slic
 abbrev pub statements_of : Arrays → ℕ → Option ℤ
 statements_of a k = slice_get a.stmt_counts k
 
--- the place behind the keys, the cells, the entries of all states
+-- the place behind the keys of all states, their uses of cells, the cells, the entries of all cells
 abbrev pub keys_end : Arrays → Option ℤ
 keys_end a = sum_before (keys_of a) (states a)
 
+abbrev pub uses_end : Arrays → Option ℤ
+uses_end a = sum_before (uses_of a) (states a)
+
+-- cells that are shared are as many as `cell_asks` has before its closing element
+abbrev pub shared_cells : Arrays → ℕ
+shared_cells a = length a.cell_asks - 1
+
 abbrev pub cells_end : Arrays → Option ℤ
-cells_end a = sum_before (cells_of a) (states a)
+cells_end a = if shares a then Some (pos (shared_cells a)) else uses_end a
 
 abbrev pub entries_end : Arrays → Option ℤ
 entries_end a = option_and_then (λ cells. sum_before (entries_of a) (natural cells)) (cells_end a)
@@ -52,11 +64,17 @@ pub record IsIn (width : ℕ → Option ℤ) (i place : ℕ) : Type 0 where
   pub from : IsSomeAnd (sum_before width i) (λ first. first ≤ℤ pos place)
   pub to : IsSomeAnd (sum_before width (i + 1)) (λ next. pos place <ℤ next)
 
--- the entry is one of a cell of the state
+-- the number of the cell that a use uses: its own, or in version 2 what `cell_uses` has for it
+abbrev pub used_cell : Arrays → ℕ → Option ℤ
+used_cell a use = if shares a then slice_get a.cell_uses use else Some (pos use)
+
+-- the entry is one of a cell that the state uses
 pub record IsEntryOf (a : Arrays) (s e : ℕ) : Type 0 where
+  pub use : ℕ
   pub cell : ℕ
   pub state : s < states a
-  pub of_state : IsIn (cells_of a) s cell
+  pub of_state : IsIn (uses_of a) s use
+  pub of_use : used_cell a use ≡ Some (pos cell)
   pub of_cell : IsIn (entries_of a) cell e
 
 -- how many elements an array has
@@ -67,6 +85,7 @@ has a the.TransKeys = length a.trans_keys
 has a the.SingleLengths = length a.single_lengths
 has a the.RangeLengths = length a.range_lengths
 has a the.CellOffsets = length a.cell_offsets
+has a the.CellUses = length a.cell_uses
 has a the.CellAsks = length a.cell_asks
 has a the.CellEntries = length a.cell_entries
 has a the.TransTargs = length a.trans_targs
@@ -106,6 +125,7 @@ due a the.TransKeys = one_more (keys_end a) (length a.trans_keys)
 due a the.SingleLengths = states a
 due a the.RangeLengths = states a
 due a the.CellOffsets = states a
+due a the.CellUses = if shares a then one_more (uses_end a) (length a.cell_uses) else 0
 due a the.CellAsks = one_more (cells_end a) (length a.cell_asks)
 due a the.CellEntries = length a.cell_asks
 due a the.TransTargs = one_more (entries_end a) (length a.trans_targs)

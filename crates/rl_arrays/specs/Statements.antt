@@ -1,6 +1,6 @@
 -- The control statements of actions.
 use Rattle.std.specs.Prelude.{ℕ, zero, suc, ◌+◌, ◌-◌, ◌&&◌, nat_le, Bool, true, false, ℤ, pos, negsuc, List, [], ◌∷◌, Option, Some, None, slice_get, unwrap_or, option_and_then, if◌then◌else◌}
-use Rattle.std.specs.Option.{option_map}
+use Rattle.std.specs.Option.{option_map, option_map_or}
 use Rattle.std.specs.List.{cons_option}
 use Rattle.std.specs.Ordering.{int_eq}
 use Rattle.rl_run.specs.declared.statements.Statement.{Statement}
@@ -51,16 +51,16 @@ ends_list Ret = true
 ends_list Next = false
 ends_list Break = true
 
--- the kinds of the statements at the outer level, of statements with these kinds and outer marks
-abbrev pub outer_kinds : List ℤ → List ℤ → List StatementKind
+-- the numbers of the kinds of the statements at the outer level, of statements with these kinds and outer marks; the mark alone counts
+abbrev pub outer_kinds : List ℤ → List ℤ → List ℤ
 outer_kinds [] marks = []
 outer_kinds (k ∷ ks) [] = []
-outer_kinds (k ∷ ks) (mark ∷ marks) = cons_option (if int_eq mark (pos 1) then kind_of k else None) (outer_kinds ks marks)
+outer_kinds (k ∷ ks) (mark ∷ marks) = cons_option (if int_eq mark (pos 1) then Some k else None) (outer_kinds ks marks)
 
 -- those up to the first transfer or break, with it
-abbrev pub up_to_end : List StatementKind → List StatementKind
+abbrev pub up_to_end : List ℤ → List ℤ
 up_to_end [] = []
-up_to_end (k ∷ ks) = if ends_list k then k ∷ [] else k ∷ up_to_end ks
+up_to_end (k ∷ ks) = if option_map_or ends_list (kind_of k) false then k ∷ [] else k ∷ up_to_end ks
 
 -- the statement of a kind, with the outer mark, the argument and the base that stand at its place
 abbrev pub statement_of : ℤ → ℤ → ℤ → StatementKind → Statement

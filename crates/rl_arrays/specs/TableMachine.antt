@@ -3,12 +3,14 @@ use Rattle.std.specs.Prelude.{ℕ, ◌+◌, ◌*◌, ◌==◌, not, ◌&&◌, �
 use Rattle.std.specs.Option.{option_map, option_map_or, option_or}
 use Rattle.std.specs.List.{filter, position}
 use Rattle.std.specs.Ordering.{int_eq}
-use Rattle.rl_types.specs.Alphabet.{key_of}
+use Rattle.rl_types.specs.Alphabet.{width_of, key_of}
+use Rattle.rl_types.specs.declared.alphabet.Alphabet.{Alphabet}
 use Rattle.rl_types.specs.declared.alphabet.Alphabet.TheVariants.{Char}
 use Rattle.rl_run.specs.Machine.{Go, Machine}
 use Rattle.rl_arrays.specs.declared.arrays.Arrays.{Arrays}
 use Rattle.rl_arrays.specs.Words.{number_at}
 use Rattle.rl_arrays.specs.Lists.{members}
+use Rattle.rl_arrays.specs.Sizes.{shares}
 use Rattle.rl_arrays.specs.KeyRules.{alphabet_of}
 use Rattle.rl_arrays.specs.Statements.{statement}
 
@@ -25,14 +27,18 @@ single_keys a s = take (number_at a.single_lengths s) (drop (number_at a.key_off
 abbrev pub range_ends : Arrays → ℕ → List ℤ
 range_ends a s = take (2 * number_at a.range_lengths s) (drop (number_at a.key_offsets s + number_at a.single_lengths s) a.trans_keys)
 
--- among the cells of a state, that of a key: its single keys have the first ones, its ranges the others
+-- among the cells that a state uses, that of a key: its single keys have the first ones, its ranges the others
 abbrev pub cell_within : Arrays → ℕ → ℤ → Option ℕ
 cell_within a s key =
     option_or (position (int_eq key) (single_keys a s)) (option_map (λ r. number_at a.single_lengths s + r) (range_of key (range_ends a s)))
 
+-- the cell of a use
+abbrev pub cell_used : Arrays → ℕ → ℕ
+cell_used a use = if shares a then number_at a.cell_uses use else use
+
 -- the cell of a key in a state, if it has one
 abbrev pub cell_of : Arrays → ℕ → ℤ → Option ℕ
-cell_of a s key = option_map (λ c. number_at a.cell_offsets s + c) (cell_within a s key)
+cell_of a s key = option_map (λ c. cell_used a (number_at a.cell_offsets s + c)) (cell_within a s key)
 
 -- the conditions that a cell asks, in ascending order, each as 2 to its number less 1
 abbrev pub asked_bits : ℕ → List ℕ
@@ -65,9 +71,14 @@ list_of a numbers s = members a.actions (number_at numbers s)
 abbrev pub name_at : List (List ℕ) → ℕ → List ℕ
 name_at names i = unwrap_or (slice_get names i) []
 
+-- the alphabet
+abbrev pub letters : Arrays → Alphabet
+letters a = unwrap_or (alphabet_of a.alphabet) Char
+
 unfoldable pub machine : Arrays → Machine ℕ
 machine a = record {
-  key_of = key_of (unwrap_or (alphabet_of a.alphabet) Char);
+  width = width_of (letters a);
+  key_of = key_of (letters a);
   asked = λ s key. asked a s key.0;
   find = λ s key hold. find a s key.0 hold;
   from = list_of a a.from_lists;

@@ -1,17 +1,20 @@
 // The arrays of a printed machine, and their names.
 use rl_types::{List, Name};
 
-/// The arrays of a data section, version 1 (this profile). An element's index counts from 0: a place, a state, a cell,
-/// an entry of a cell, an action, a statement, a condition or an entry's number, as each array says.
+/// The arrays of a data section (this profile). An element's index counts from 0: a place, a state, a use of a cell, a
+/// cell, an entry of a cell, an action, a statement, a condition or an entry's number, as each array says. In version 1
+/// each key has a cell of its own; in version 2 keys share cells, and `cell_uses` says which cell each key has.
 #[derive(Debug, Drop)]
 pub struct Arrays {
+    /// 1 or 2.
+    pub version: i64,
     /// The machine's name.
     pub name: Name,
     /// The start entry's state.
     pub start: i64,
     /// The least final state.
     pub first_final: i64,
-    /// 0 for `char`, 1 for `unsigned char`.
+    /// 0 for `char`, 1 `unsigned char`, 2 `short`, 3 `unsigned short`, 4 `int`, 5 `unsigned int`.
     pub alphabet: i64,
     /// All lists of actions, each as its length and its members; place 0 holds 0, the empty list. A list's number is
     /// its place.
@@ -24,8 +27,11 @@ pub struct Arrays {
     pub single_lengths: List<i64>,
     /// Per state, the number of its ranges.
     pub range_lengths: List<i64>,
-    /// Per state, the place of its first cell. Cells follow the keys' order: a single key and a range have one each.
+    /// Per state, the place of its first cell; in version 2 of the first use of one, in `cell_uses`. They follow the
+    /// keys' order: a single key and a range have one each.
     pub cell_offsets: List<i64>,
+    /// In version 2, per use the number of its cell, from 0; one closing 0. Empty in version 1.
+    pub cell_uses: List<i64>,
     /// Per cell, the conditions that are asked: condition i as 2 to the i - 1; one closing 0.
     pub cell_asks: List<i64>,
     /// Per cell, the place of its first entry; one closing 0.
@@ -80,6 +86,7 @@ pub enum ArrayName {
     SingleLengths,
     RangeLengths,
     CellOffsets,
+    CellUses,
     CellAsks,
     CellEntries,
     TransTargs,
@@ -104,13 +111,14 @@ pub enum ArrayName {
 }
 
 /// The arrays in the order in which they are printed and checked.
-pub const ORDER: [ArrayName; 27] = [
+pub const ORDER: [ArrayName; 28] = [
     ArrayName::Actions,
     ArrayName::KeyOffsets,
     ArrayName::TransKeys,
     ArrayName::SingleLengths,
     ArrayName::RangeLengths,
     ArrayName::CellOffsets,
+    ArrayName::CellUses,
     ArrayName::CellAsks,
     ArrayName::CellEntries,
     ArrayName::TransTargs,

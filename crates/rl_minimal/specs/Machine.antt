@@ -28,6 +28,7 @@ entry_at entries (suc e) = unwrap_or (slice_get entries e) 0
 -- state 0 is Error
 abbrev pub min_machine : Minimal → Context → Machine ℕ
 min_machine m context = record {
+  width = context.width;
   key_of = context.key_of;
   asked = λ i key. asks_at key.0 (map reads_of (edges_at m i));
   find = λ i key hold. option_map go_of (edge_for (letter_of key hold) (edges_at m i));

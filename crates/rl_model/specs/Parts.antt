@@ -20,6 +20,7 @@ pub record Part (S : Type 0) : Type 0 where
 
 -- what a machine has beside its states
 pub record Context : Type 0 where
+  pub width : ℕ
   pub key_of : ℕ → Key
   pub statement : ℕ → ℕ → Option Statement
   pub action_name : ℕ → List ℕ
@@ -78,6 +79,7 @@ module _ (C : ℕ → Type 0) (part : (e : ℕ) → Part (C e)) where
   -- the machine of so many entries; Error has no step, asks nothing, and its lists are empty
   abbrev pub machine : ℕ → Context → Machine (EntryState C)
   machine count context = record {
+    width = context.width;
     key_of = context.key_of;
     asked = λ q key. told 0 (λ e s. (part e).auto.asked s key.0) q;
     find = λ q key hold. told None (λ e s. option_map (go_at e) ((part e).auto.step s (letter_of key hold))) q;

@@ -1,6 +1,6 @@
 -- The tree machine: the machine that the expressions of a specification themselves are.
 use Rattle.std.specs.Prelude.{ℕ, zero, suc, Bool, true, false, List, [], ◌∷◌, Option, Some, None, length}
-use Rattle.rl_types.specs.Alphabet.{key_of}
+use Rattle.rl_types.specs.Alphabet.{width_of, key_of}
 use Rattle.rl_automata.specs.Nodes.{Nothing, Conf}
 use Rattle.rl_automata.specs.Marks.{Marks, auto, AreHonest}
 use Rattle.rl_automata.specs.Scans.{Confs, PatternMarks, ArePatternsHonest, scan_auto, token_list, TellsClosed}
@@ -80,6 +80,7 @@ part_of spec k e = root_part (root_at (roots_of spec) e) (tests_at (roots_of spe
 
 abbrev pub context_of : Specification → Context
 context_of spec = record {
+  width = width_of spec.alphabet;
   key_of = key_of spec.alphabet;
   statement = statement_at spec.actions;
   action_name = action_name_at spec.actions;

@@ -49,6 +49,7 @@ reason_word (stops.Back pick) = codes "back"
 reason_word (stops.Stuck pick) = codes "stuck"
 reason_word stops.Overlong = codes "overlong"
 reason_word stops.PastEnd = codes "past-end"
+reason_word stops.HalfKey = codes "half-key"
 reason_word (stops.Stray answer) = codes "stray"
 reason_word stops.HostStop = codes "host-stop"
 

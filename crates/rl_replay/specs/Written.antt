@@ -4,7 +4,7 @@ use Rattle.std.specs.Str.{bytes_eq}
 use Rattle.rl_run.specs.declared.calls.Call.{Call}
 use Rattle.rl_run.specs.declared.sessions.Settings.{Settings}
 use Rattle.rl_run.specs.Machine.{Machine}
-use Rattle.rl_run.specs.Run.{Input, Rest}
+use Rattle.rl_run.specs.Run.{Input, Rest, input_at}
 use Rattle.rl_run.specs.Verdict.{verdict_of}
 use Rattle.rl_replay.specs.declared.script.Event.TheVariants.{Open, Piece, End}
 use Rattle.rl_replay.specs.declared.script.Line.{Line}
@@ -25,9 +25,9 @@ texts parts = flat_map (λ part. part.text) parts
 abbrev pub texts_of : List ℕ → List Part → List ℕ
 texts_of s parts = texts (filter (λ part. bytes_eq part.session s) parts)
 
--- the input of a session by its lines so far: all its pieces, ended where one of the lines ends it
-abbrev pub input_of : List Line → Input
-input_of own = record { base = 0; bytes = fed own; is_closed = is_ended own }
+-- the input of a session by its lines so far, in characters of a width: all its pieces, ended where one of the lines ends it
+abbrev pub input_of : ℕ → List Line → Input
+input_of width own = input_at width 0 (fed own) (is_ended own)
 
 -- the entry that a session was opened at
 abbrev pub entry_of : Names → List Line → ℕ
@@ -36,11 +36,11 @@ entry_of names own = entry_or_start names (unwrap_or (opened_at own) None)
 module _ {S : Type 0} (names : Names) (m : Machine S) (settings : Settings) where
   -- the run of a session by its lines so far, answered by all lines that name it
   abbrev pub host_run : List Line → List Line → List Call × Rest S
-  host_run own past = session_run m settings (host m own) (entry_of names past) (input_of past)
+  host_run own past = session_run m settings (host m own) (entry_of names past) (input_of m.width past)
 
   -- the lines of that run, once the session is open
   abbrev pub session_lines : List ℕ → List Line → List Line → List ℕ
-  session_lines s own past = if is_opened past then run_lines m settings s (host m own) (entry_of names past) (input_of past) else []
+  session_lines s own past = if is_opened past then run_lines m settings s (host m own) (entry_of names past) (input_of m.width past) else []
 
   -- the left line of a session, by all lines that name it
   abbrev pub left_part : List ℕ → List Line → Part

@@ -2,6 +2,7 @@
 ghost use Rattle.std.specs.Prelude.{◌≡◌, ℕ, Bool, true, IsTrue, List, [], Option, None};
 ghost use Rattle.rl_run.specs.declared.sessions.Settings.{Settings};
 ghost use Rattle.rl_run.specs.Machine.{Machine};
+ghost use Rattle.rl_run.specs.Run.{input_at};
 ghost use Rattle.rl_run.specs.Twin.{IsTwin};
 ghost use Rattle.rl_replay.specs.declared.script.Line.{Line};
 ghost use Rattle.rl_replay.specs.Sessions.{Names, only, entry_or_start, first_fault};
@@ -30,7 +31,7 @@ pub fn pieces_add_up()
 pub fn whole_inputs_are_one_run()
     ensures { (names : Names) (m : Machine ℕ) (settings : Settings) (s : List ℕ) (entry : Option (List ℕ)) (bytes : List ℕ) →
         written names m settings (whole_input s entry bytes)
-        ≡ run_lines m settings s (host m []) (entry_or_start names entry) (record { base = 0; bytes = bytes; is_closed = true }) }
+        ≡ run_lines m settings s (host m []) (entry_or_start names entry) (input_at m.width 0 bytes true) }
 {}
 
 /// Two machines whose look-ups agree at states that stand for each other, but for the numbers of actions, write the

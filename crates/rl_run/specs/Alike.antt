@@ -1,4 +1,4 @@
--- Two machines that make the same runs, said without their states.
+-- Two machines that make the same runs, and end in states that stand for each other.
 use Rattle.std.specs.Prelude.{◌≡◌, ℕ, Bool, List, map}
 use Rattle.std.specs.Option.{option_map}
 use Rattle.rl_run.specs.declared.calls.Answer.{Answer}
@@ -11,10 +11,12 @@ use Rattle.rl_run.specs.Run.{Input, Rest}
 use Rattle.rl_run.specs.Chain.{run_on}
 use Rattle.rl_run.specs.Verdict.{verdict_of}
 
-module _ {S T : Type 0} (m : Machine S) (w : Machine T) (ρ : ℕ → ℕ) where
-  -- the same outcome, positions and verdict
+module _ {S T : Type 0} (m : Machine S) (w : Machine T) (ρ : ℕ → ℕ) (R : S → T → Type 0) where
+  -- the same outcome, positions and verdict; the states, and those on the stacks, stand for each other
   pub record EndsAlike (a : Rest S) (b : Rest T) : Type 0 where
     pub outcome : b.outcome ≡ a.outcome
+    pub state : R a.session.state b.session.state
+    pub stack : AllZip R a.session.stack b.session.stack
     pub next : b.session.next ≡ a.session.next
     pub ts : b.session.ts ≡ a.session.ts
     pub te : b.session.te ≡ a.session.te

@@ -31,7 +31,7 @@ run_on is_broken_off m settings input s = turns is_broken_off m settings input (
 
 -- what is seen of one input is seen of another
 abbrev pub Extends : Input → Input → Type 0
-Extends short long = (p byte : ℕ) → letter short p ≡ Some byte → letter long p ≡ Some byte
+Extends short long = (p character : ℕ) → letter short p ≡ Some character → letter long p ≡ Some character
 
 -- the run may go on
 abbrev pub IsOpen : Option Outcome → Type 0

@@ -11,6 +11,7 @@ module _ {S : Type 0} (m : Machine S) (class : S → ℕ) where
   -- the machine of the classes, each by one of its states
   abbrev pub quotient : (ℕ → S) → Machine ℕ
   quotient state = record {
+    width = m.width;
     key_of = m.key_of;
     asked = λ p key. m.asked (state p) key;
     find = λ p key hold. option_map class_go (m.find (state p) key hold);

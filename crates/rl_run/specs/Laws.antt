@@ -55,5 +55,5 @@ IsStandingThere {S} m =
 -- each turn that does not stop lowers the four numbers of its session, in lexicographic order; so does the delivery at the end of input
 abbrev pub IsDescending : {S : Type 0} → Machine S → Type 0
 IsDescending {S} m = (settings : Settings) (s : Session S) → IsKinded m → IsFine m s → s.next < 2 ^ 63 →
-    ((byte : ℕ) → AllEnds (λ c. UnlessStops c.flow (IsLexBelow (bounds c.session) (bounds s))) (turn m settings s byte))
+    ((character : ℕ) → AllEnds (λ c. UnlessStops c.flow (IsLexBelow (bounds c.session) (bounds s))) (turn m settings s character))
     × ((list : List ℕ) → s.kept ≡ Some list → AllEnds (λ c. UnlessStops c.flow (IsLexBelow (bounds c.session) (bounds s))) (last_delivery m settings s.next list s))

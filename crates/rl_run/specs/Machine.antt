@@ -9,8 +9,10 @@ pub record Go (S : Type 0) : Type 0 where
   pub target : S
   pub list : List ℕ
 
--- the look-ups of a machine whose states are the S: the tree machine and the table machine give them
+-- the look-ups of a machine whose states are the S: the tree machine and the table machine give them. A character has `width` bytes,
+-- and `key_of` is its key by its number
 pub record Machine (S : Type 0) : Type 0 where
+  pub width : ℕ
   pub key_of : ℕ → Key
   pub asked : S → Key → ℕ
   pub find : S → Key → ℕ → Option (Go S)

@@ -2,24 +2,18 @@
 --     0                Error
 --     from 1 on        the classes of alike states that the entries reach, as a breadth-first walk meets them: from the entries in
 --                      order, by ascending key and then ascending truths; those that are not final stand before those that are
-use Rattle.std.specs.Prelude.{◌≡◌, ℕ, ◌≤◌, ◌⊎◌, not, List, [], ◌∷◌, ◌++◌, map, filter, length, nat_eq, Some, Contains}
+use Rattle.std.specs.Prelude.{◌≡◌, ℕ, ℤ, ◌≤◌, ◌⊎◌, not, List, [], ◌∷◌, ◌++◌, map, filter, length, nat_eq, Some, Contains}
 use Rattle.std.specs.Option.{option_map}
 use Rattle.std.specs.List.{filter_map, flat_map, range_with_len}
 use Rattle.rl_types.specs.declared.numbers.Key.{Key}
 use Rattle.rl_types.specs.declared.alphabet.Alphabet.{Alphabet}
-use Rattle.rl_types.specs.declared.alphabet.Alphabet.TheVariants.{Char, UnsignedChar}
-use Rattle.rl_types.specs.Alphabet.{key_of}
+use Rattle.rl_types.specs.Alphabet.{keys_of}
 use Rattle.rl_run.specs.Machine.{Go, Machine}
 use Rattle.rl_run.specs.Classes.{AreClasses}
 
--- the bytes by ascending key
-abbrev pub bytes_by_key : Alphabet → List ℕ
-bytes_by_key Char = range_with_len 128 128 ++ range_with_len 0 128
-bytes_by_key UnsignedChar = range_with_len 0 256
-
 -- the letters of an alphabet by ascending key and then ascending truths
 unfoldable pub letters_of : Alphabet → List (Key × ℕ)
-letters_of alphabet = flat_map (λ byte. map (λ truths. (key_of alphabet byte, truths)) (range_with_len 0 256)) (bytes_by_key alphabet)
+letters_of alphabet = flat_map (λ (key : ℤ). map (λ truths. (record { 0 = key }, truths)) (range_with_len 0 256)) (keys_of alphabet)
 
 -- each number once, at its first place
 abbrev pub firsts : List ℕ → List ℕ

@@ -140,9 +140,10 @@ body m settings spot key s =
     else bind (calls m settings spot From (m.from s.state) s) (λ c. if_goes c (λ t. sought m settings spot key t))
 
 abbrev pub spot_of : {S : Type 0} → Machine S → Settings → Session S → ℕ → Spot
-spot_of m settings s byte = record { at = s.next; key = Some (m.key_of byte); floor = keep settings s; is_end = false }
+spot_of m settings s character = record { at = s.next; key = Some (m.key_of character); floor = keep settings s; is_end = false }
 
--- the turn for one byte
+-- the turn for one character
 unfoldable pub turn : {S : Type 0} → Machine S → Settings → Session S → ℕ → Play (Came S)
-turn m settings s byte =
-    bind (body m settings (spot_of m settings s byte) (m.key_of byte) (opened m s)) (finished m settings (spot_of m settings s byte))
+turn m settings s character =
+    bind (body m settings (spot_of m settings s character) (m.key_of character) (opened m s))
+    (finished m settings (spot_of m settings s character))

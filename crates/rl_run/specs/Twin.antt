@@ -65,7 +65,8 @@ module _ {S T : Type 0} (m : Machine S) (w : Machine T) (ρ : ℕ → ℕ) (R : 
 
   -- the look-ups agree at states that stand for each other
   pub record IsTwin : Type 0 where
-    pub key_of : (byte : ℕ) → w.key_of byte ≡ m.key_of byte
+    pub width : w.width ≡ m.width
+    pub key_of : (character : ℕ) → w.key_of character ≡ m.key_of character
     pub asked : (q : S) (p : T) (key : Key) → R q p → w.asked p key ≡ m.asked q key
     pub find : (q : S) (p : T) (key : Key) (hold : ℕ) → R q p → GoR (m.find q key hold) (w.find p key hold)
     pub from : (q : S) (p : T) → R q p → ListR (m.from q) (w.from p)

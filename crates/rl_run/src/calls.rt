@@ -77,6 +77,8 @@ pub enum Stop {
     Overlong,
     /// The input ended before the next position.
     PastEnd,
+    /// The input ended within a character.
+    HalfKey,
     /// The answer does not fit the call.
     Stray(Answer),
     /// The host stopped the session.
