@@ -11,7 +11,7 @@ use Rattle.rl_grammar.specs.declared.syntax.Statement.{Statement}
 use Rattle.rl_grammar.specs.declared.syntax.Statement.TheVariants as statement
 use Rattle.rl_grammar.specs.declared.syntax.Definition.{Definition as Written}
 use Rattle.rl_model.specs.declared.spec.ActionDef.{ActionDef}
-use Rattle.rl_steps.specs.declared.step.Step.{Step}
+use Rattle.rl_grammar.specs.declared.step.Step.{Step}
 use Rattle.rl_draft.specs.declared.draft.Definition.{Definition}
 use Rattle.rl_names.specs.Actions.{action_def, action_used, actions_by, actions_behind, actions_of}
 use Rattle.rl_names.specs.Answers.{along}

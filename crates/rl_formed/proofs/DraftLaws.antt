@@ -16,7 +16,7 @@ use Rattle.rl_automata.specs.Refused.{sets_in}
 use Rattle.rl_model.specs.Counts.{actions_in, trees_of}
 use Rattle.rl_model.specs.WellFormed.{IsNumber}
 use Rattle.rl_model.specs.declared.spec.ActionDef.{ActionDef}
-use Rattle.rl_steps.specs.declared.step.Step.{Step}
+use Rattle.rl_grammar.specs.declared.step.Step.{Step}
 use Rattle.rl_draft.specs.declared.draft.Definition.{Definition}
 use Rattle.rl_draft.specs.declared.draft.Draft.{Draft}
 use Rattle.rl_names.specs.Actions.{actions_of, action_names}

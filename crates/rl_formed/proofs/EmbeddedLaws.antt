@@ -25,7 +25,7 @@ use Rattle.rl_grammar.specs.declared.syntax.Statement.TheVariants as statement
 use Rattle.rl_grammar.specs.declared.syntax.Union.{Union}
 use Rattle.rl_model.specs.Counts.{actions_in, trees_of}
 use Rattle.rl_model.specs.WellFormed.{IsNumber}
-use Rattle.rl_steps.specs.declared.step.Step.{Step}
+use Rattle.rl_grammar.specs.declared.step.Step.{Step}
 use Rattle.rl_draft.specs.declared.draft.Definition.{Definition}
 use Rattle.rl_draft.specs.declared.draft.Value.{Value}
 use Rattle.rl_draft.specs.declared.draft.Value.TheVariants as value

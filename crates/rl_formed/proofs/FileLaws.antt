@@ -5,7 +5,7 @@ use Rattle.rl_grammar.specs.declared.syntax.Statement.{Statement}
 use Rattle.rl_grammar.specs.declared.syntax.Statement.TheVariants as statement
 use Rattle.rl_model.specs.declared.spec.ActionDef.{ActionDef}
 use Rattle.rl_model.specs.declared.spec.Write.{Write}
-use Rattle.rl_steps.specs.declared.step.Step.{Step}
+use Rattle.rl_grammar.specs.declared.step.Step.{Step}
 use Rattle.rl_names.specs.Actions.{actions_of}
 use Rattle.rl_names.specs.Events.{Event, union_events}
 use Rattle.rl_names.specs.Events as event

@@ -14,7 +14,7 @@ use Rattle.rl_grammar.specs.declared.syntax.Statement.TheVariants as statement
 use Rattle.rl_sets.specs.Sets.{In}
 use Rattle.rl_automata.specs.Refused.{AreDifferent}
 use Rattle.rl_model.specs.declared.spec.ActionDef.{ActionDef}
-use Rattle.rl_steps.specs.declared.step.Step.{Step}
+use Rattle.rl_grammar.specs.declared.step.Step.{Step}
 use Rattle.rl_draft.specs.declared.draft.Definition.{Definition}
 use Rattle.rl_names.specs.Actions.{named_behind, action_names}
 use Rattle.rl_names.specs.Answers.{along}

@@ -14,7 +14,7 @@ use Rattle.rl_grammar.specs.declared.syntax.Scanner.{Scanner, out-Scanner}
 use Rattle.rl_grammar.specs.declared.syntax.Statement.{Statement}
 use Rattle.rl_grammar.specs.declared.syntax.Statement.TheVariants as statement
 use Rattle.rl_grammar.specs.declared.syntax.Union.{Union}
-use Rattle.rl_steps.specs.declared.step.Step.{Step}
+use Rattle.rl_grammar.specs.declared.step.Step.{Step}
 use Rattle.rl_draft.specs.declared.draft.Definition.{Definition}
 use Rattle.rl_draft.specs.declared.draft.Value.{Value}
 use Rattle.rl_draft.specs.declared.draft.Value.TheVariants as value

@@ -16,7 +16,7 @@ use Rattle.rl_draft.specs.declared.expression.Leaf.TheVariants as leaf
 use Rattle.rl_leaves.specs.BuiltIns.{built_in_leaf}
 use Rattle.rl_leaves.specs.Forms.{AreRanges, IsItem, IsLeaf}
 use Rattle.rl_leaves.proofs.BuiltInLaws.{built_in_form}
-use Rattle.rl_steps.specs.declared.step.Step.{Step}
+use Rattle.rl_grammar.specs.declared.step.Step.{Step}
 use Rattle.rl_names.specs.Drafts.{definitions_of}
 use Rattle.rl_names.specs.Events.{Event}
 use Rattle.rl_names.specs.Events as events

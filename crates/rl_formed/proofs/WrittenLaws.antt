@@ -8,8 +8,8 @@ use Rattle.rl_grammar.specs.declared.read_fault.ReadFault.{ReadFault}
 use Rattle.rl_grammar.specs.declared.syntax.Definition.{Definition as Written}
 use Rattle.rl_grammar.specs.declared.syntax.Statement.{Statement}
 use Rattle.rl_grammar.specs.declared.syntax.Statement.TheVariants as statement
-use Rattle.rl_steps.specs.Steps.{is_included}
-use Rattle.rl_steps.specs.declared.step.Step.{Step}
+use Rattle.rl_grammar.specs.Steps.{is_included}
+use Rattle.rl_grammar.specs.declared.step.Step.{Step}
 use Rattle.rl_draft.specs.declared.draft.Definition.{Definition}
 use Rattle.rl_names.specs.Drafts.{names_of, scope_behind, definition_read, definition_behind, definitions_by, definitions_behind, definitions_of}
 use Rattle.rl_names.specs.Expressions.{Scope}

@@ -15,7 +15,7 @@ use Rattle.rl_model.specs.declared.spec.ActionDef.{ActionDef}
 use Rattle.rl_model.specs.declared.spec.Write.{Write}
 use Rattle.rl_model.specs.Counts.{actions_in, trees_of}
 use Rattle.rl_model.specs.WellFormed.{IsNumber, IsInAlphabet}
-use Rattle.rl_steps.specs.declared.step.Step.{Step}
+use Rattle.rl_grammar.specs.declared.step.Step.{Step}
 use Rattle.rl_draft.specs.declared.draft.Draft.{Draft}
 use Rattle.rl_names.specs.Drafts.{draft_of}
 use Rattle.rl_names.specs.Events.{Event, union_events}

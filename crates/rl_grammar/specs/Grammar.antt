@@ -16,6 +16,8 @@ use Rattle.rl_grammar.specs.declared.syntax.Statement.TheVariants as statement
 use Rattle.rl_grammar.specs.declared.syntax.Machine.{Machine}
 use Rattle.rl_grammar.specs.declared.syntax.Include.{Include}
 use Rattle.rl_grammar.specs.declared.syntax.Alphtype.{Alphtype}
+use Rattle.rl_grammar.specs.declared.syntax.AlphabetWord.{AlphabetWord}
+use Rattle.rl_grammar.specs.declared.syntax.AlphabetWord.TheVariants as alphabet
 use Rattle.rl_grammar.specs.declared.syntax.Access.{Access}
 use Rattle.rl_grammar.specs.declared.syntax.Variable.{Variable}
 use Rattle.rl_grammar.specs.declared.syntax.Write.{Write}
@@ -295,8 +297,13 @@ abbrev pub unsigned_text : Option Place → Text
 unsigned_text None = []
 unsigned_text (Some place) = quoted (codes "unsigned") place
 
+abbrev pub alphabet_word_text : AlphabetWord → Text
+alphabet_word_text (alphabet.Char place) = quoted (codes "char") place
+alphabet_word_text (alphabet.Short place) = quoted (codes "short") place
+alphabet_word_text (alphabet.Int place) = quoted (codes "int") place
+
 abbrev pub alphtype_text : Alphtype → Text
-alphtype_text s = mark k.Alphtype s.start ++ (unsigned_text s.unsigned ++ (quoted (codes "char") s.name ++ mark k.Semicolon s.semicolon))
+alphtype_text s = mark k.Alphtype s.start ++ (unsigned_text s.unsigned ++ (alphabet_word_text s.word ++ mark k.Semicolon s.semicolon))
 
 abbrev pub access_text : Access → Text
 access_text s = mark k.Access s.start ++ (word k.Text s.text ++ mark k.Semicolon s.semicolon)

@@ -3,3 +3,4 @@ pub mod Lexeme
 pub mod Literals
 pub mod Grammar
 pub mod Refusals
+pub mod Steps

@@ -47,15 +47,26 @@ pub struct Include {
     pub semicolon: Place,
 }
 
-/// `alphtype char;` or `alphtype unsigned char;` (the guide's section 5.2)
+/// `alphtype char;`, or with `short` or `int`, each behind `unsigned` or not (the guide's section 5.2)
 #[derive(Drop)]
 pub struct Alphtype {
     pub start: Place,
     /// The place of the word `unsigned`, where it stands.
     pub unsigned: Option<Place>,
-    /// The place of the word `char`.
-    pub name: Place,
+    /// How wide the characters are.
+    pub word: AlphabetWord,
     pub semicolon: Place,
+}
+
+/// How wide the characters of an alphabet are, with the place of its word.
+#[derive(Clone, Copy)]
+pub enum AlphabetWord {
+    /// `char`: one byte
+    Char(Place),
+    /// `short`: two bytes
+    Short(Place),
+    /// `int`: four bytes
+    Int(Place),
 }
 
 /// `access TEXT;` (the guide's section 5.4)

@@ -2,9 +2,9 @@
 use crate::memory::name_of;
 use crate::{Stop, Unrolled, unroll};
 use rl_files::read_file;
+use rl_grammar::Step;
 use rl_grammar::syntax::Statement;
 use rl_io::{MemStore, Store, StoreFault};
-use rl_steps::Step;
 use rl_types::{Fault, FaultKind, Limit, LimitKind, Place};
 use std::alloc::Global;
 

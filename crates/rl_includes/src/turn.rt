@@ -9,8 +9,8 @@ use crate::lookup::{looked_up, same_text};
 use crate::memory::{copied, name_of, push};
 use crate::reader::{Extent, Located, Part, Reader, Request};
 use crate::unrolled::{Stop, Unrolled};
+use rl_grammar::Step;
 use rl_grammar::syntax::{Include, Statement, Word};
-use rl_steps::Step;
 use rl_types::{Fault, FaultKind, Memory, Name, Place};
 use std::alloc::Global;
 

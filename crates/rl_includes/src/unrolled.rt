@@ -1,5 +1,5 @@
 // What a source comes to once its includes are read.
-use rl_steps::Step;
+use rl_grammar::Step;
 use rl_types::{Fault, Limit, List, Name};
 
 /// The statements of a source with the files that it includes read in place.

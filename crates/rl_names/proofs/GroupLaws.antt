@@ -12,8 +12,8 @@ use Rattle.rl_names.specs.Expressions.{Scope}
 use Rattle.rl_names.specs.Frames.{is_of, alphabet_by, alphabet_behind, alphabet_of, frame_by, frame_behind, frame_of, write_by, write_behind, writes_of}
 use Rattle.rl_names.specs.Priorities.{priorities_by, priorities_behind, priorities_of}
 use Rattle.rl_names.specs.TableForms.{Pointer, pointed, instead}
-use Rattle.rl_steps.specs.Steps.{is_included}
-use Rattle.rl_steps.specs.declared.step.Step.{Step}
+use Rattle.rl_grammar.specs.Steps.{is_included}
+use Rattle.rl_grammar.specs.declared.step.Step.{Step}
 
 -- ---- one statement more
 

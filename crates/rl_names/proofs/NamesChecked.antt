@@ -11,7 +11,7 @@ use Rattle.rl_names.specs.Answers.{or_else, Told}
 use Rattle.rl_names.specs.Names.{known, names_of, names_by, defined_by, action_by, written_by, statement_fault, step_fault, faults_behind, names_fault}
 use Rattle.rl_names.specs.TableForms.{count_in}
 use Rattle.rl_names.specs.Tables.{seen, behind, IsNoted}
-use Rattle.rl_steps.specs.declared.step.Step.{Step}
+use Rattle.rl_grammar.specs.declared.step.Step.{Step}
 use Rattle.rl_names.specs.declared.tables.Tables.{Tables}
 
 -- the steps before this place have no fault, and the tables have what they define

@@ -14,7 +14,7 @@ use Rattle.rl_names.specs.Events.{Event, union_events}
 use Rattle.rl_names.specs.Events as event
 use Rattle.rl_names.specs.Frames.{is_of}
 use Rattle.rl_names.specs.Leaves.{fault_at}
-use Rattle.rl_steps.specs.declared.step.Step.{Step}
+use Rattle.rl_grammar.specs.declared.step.Step.{Step}
 
 -- the number of a file that is not the first
 abbrev pub file_part : ℕ → List ℕ

@@ -12,7 +12,7 @@ use Rattle.rl_names.specs.Events.{Event, union_events}
 use Rattle.rl_names.specs.Events as event
 use Rattle.rl_names.specs.Frames.{alphabet_of}
 use Rattle.rl_names.specs.Leaves.{fault_at, leaf_read}
-use Rattle.rl_steps.specs.declared.step.Step.{Step}
+use Rattle.rl_grammar.specs.declared.step.Step.{Step}
 
 -- ---- keys
 

@@ -29,7 +29,7 @@ use Rattle.rl_names.specs.Frames.{is_of, alphabet_of, frame_of, writes_of, machi
 use Rattle.rl_names.specs.Leaves.{fault_at}
 use Rattle.rl_names.specs.Priorities.{priorities_of}
 use Rattle.rl_names.specs.Values.{scanner_of}
-use Rattle.rl_steps.specs.declared.step.Step.{Step}
+use Rattle.rl_grammar.specs.declared.step.Step.{Step}
 
 -- ---- definitions
 

@@ -13,8 +13,8 @@ use Rattle.rl_model.specs.declared.spec.Frame.{Frame}
 use Rattle.rl_model.specs.declared.spec.Write.{Write}
 use Rattle.rl_model.specs.declared.spec.WriteKind.{WriteKind}
 use Rattle.rl_model.specs.declared.spec.WriteKind.TheVariants as written
-use Rattle.rl_steps.specs.Steps.{is_included}
-use Rattle.rl_steps.specs.declared.step.Step.{Step}
+use Rattle.rl_grammar.specs.Steps.{is_included}
+use Rattle.rl_grammar.specs.declared.step.Step.{Step}
 
 -- the step belongs to the machine
 abbrev pub is_of : List ℕ → Step → Bool

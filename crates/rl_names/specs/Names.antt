@@ -21,7 +21,7 @@ use Rattle.rl_names.specs.Events.{Event, Found, union_events}
 use Rattle.rl_names.specs.Events as event
 use Rattle.rl_names.specs.Leaves.{is_built_in}
 use Rattle.rl_names.specs.Values.{scanner_of}
-use Rattle.rl_steps.specs.declared.step.Step.{Step}
+use Rattle.rl_grammar.specs.declared.step.Step.{Step}
 
 -- a name of a machine: the machine's own, and this one
 abbrev pub Named : Type 0

@@ -5,7 +5,7 @@ use Rattle.rl_grammar.specs.declared.syntax.Statement.TheVariants as statement
 use Rattle.rl_names.specs.Events.{Event, union_events}
 use Rattle.rl_names.specs.Events as event
 use Rattle.rl_names.specs.Frames.{is_of, with_name}
-use Rattle.rl_steps.specs.declared.step.Step.{Step}
+use Rattle.rl_grammar.specs.declared.step.Step.{Step}
 
 -- names of definitions, and those that stand with numbers, in order of first use
 

@@ -7,7 +7,7 @@ use Rattle.indexmap.specs.IndexSet.{IndexSet}
 use Rattle.rl_types.specs.declared.alphabet.Alphabet.{Alphabet}
 use Rattle.rl_types.specs.declared.alphabet.Alphabet.TheVariants.{Char}
 use Rattle.rl_names.specs.Names.{Named}
-use Rattle.rl_steps.specs.declared.step.Step.{Step}
+use Rattle.rl_grammar.specs.declared.step.Step.{Step}
 use denote.Ref.{Bor}
 
 abbrev pub Text : Type 0

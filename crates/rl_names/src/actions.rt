@@ -12,10 +12,9 @@ use crate::memory::{fault_at, name_of, push};
 use crate::texts::{Texts, put};
 use indexmap::IndexSet;
 use itoa::Buffer;
-use rl_grammar::ReadFault;
 use rl_grammar::syntax::{Statement, Union, Word};
+use rl_grammar::{ReadFault, Step};
 use rl_model::ActionDef;
-use rl_steps::Step;
 use rl_types::{Code, FaultKind, List, Place};
 use std::alloc::{AllocError, Global};
 

@@ -7,8 +7,7 @@ ghost use Rattle.rl_names.specs.TableForms.{alphabet_in};
 
 use crate::frames::alphabet_by;
 use indexmap::IndexMap;
-use rl_grammar::ReadFault;
-use rl_steps::Step;
+use rl_grammar::{ReadFault, Step};
 use rl_types::Alphabet;
 use std::alloc::Global;
 

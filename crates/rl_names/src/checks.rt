@@ -9,9 +9,8 @@ use crate::code::steers;
 use crate::events::{Event, events_of};
 use crate::leaves::leaf_of;
 use crate::memory::{NameFault, fault_at};
-use rl_grammar::ReadFault;
 use rl_grammar::syntax::{Statement, Word};
-use rl_steps::Step;
+use rl_grammar::{ReadFault, Step};
 use rl_types::{Alphabet, FaultKind};
 use std::alloc::Global;
 

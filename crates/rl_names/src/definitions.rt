@@ -17,12 +17,11 @@ use crate::texts::{Texts, has, put};
 use crate::values::scanner_of;
 use indexmap::IndexSet;
 use rl_draft::{Definition, Pattern, Sign, Value};
-use rl_grammar::ReadFault;
 use rl_grammar::syntax::{
     Definition as Written, DefinitionSign, Pattern as Listed, PatternAction, Scanner, Statement,
     Union,
 };
-use rl_steps::Step;
+use rl_grammar::{ReadFault, Step};
 use rl_types::{ActionId, FaultKind, List};
 use std::alloc::Global;
 

@@ -3,13 +3,12 @@ ghost use Rattle.std.specs.Prelude.{◌≡◌, MatchResult};
 ghost use Rattle.rl_grammar.specs.declared.read_fault.ReadFault.TheVariants as reason;
 ghost use Rattle.rl_names.specs.Frames as frames;
 ghost use Rattle.rl_names.specs.TableForms.{pointed};
-ghost use Rattle.rl_steps.specs.Steps.{is_included};
+ghost use Rattle.rl_grammar.specs.Steps.{is_included};
 
 use crate::memory::{name_of, push};
-use rl_grammar::ReadFault;
 use rl_grammar::syntax::{Statement, WriteKind as Asked};
+use rl_grammar::{ReadFault, Step};
 use rl_model::{Frame, Write, WriteKind};
-use rl_steps::Step;
 use rl_types::{Alphabet, Code, List, Name};
 use std::alloc::Global;
 

@@ -6,8 +6,7 @@ ghost use Rattle.rl_names.specs.TableForms.{own_in, instead, pointed};
 
 use crate::memory::push;
 use indexmap::IndexMap;
-use rl_grammar::ReadFault;
-use rl_steps::Step;
+use rl_grammar::{ReadFault, Step};
 use std::alloc::Global;
 
 /// The statements of each machine, in text order.

@@ -17,10 +17,9 @@ use crate::priorities::priorities_of;
 use crate::texts::{Texts, put};
 use indexmap::IndexSet;
 use rl_draft::{Definition, Draft};
-use rl_grammar::ReadFault;
 use rl_grammar::syntax::Statement;
+use rl_grammar::{ReadFault, Step};
 use rl_model::ActionDef;
-use rl_steps::Step;
 use rl_types::{List, Name};
 use std::alloc::Global;
 

@@ -13,10 +13,9 @@ use crate::tables::{Tables, add, add_text, count_of, define, is_among, said_of, 
 use crate::texts::has;
 use crate::values::scanner_of;
 use indexmap::{IndexMap, IndexSet};
-use rl_grammar::ReadFault;
 use rl_grammar::syntax::{Action, Definition, Statement, Union, Word, Write, WriteKind};
+use rl_grammar::{ReadFault, Step};
 use rl_leaves::is_built_in;
-use rl_steps::Step;
 use rl_types::{FaultKind, Limit, LimitKind, Place};
 use std::alloc::Global;
 

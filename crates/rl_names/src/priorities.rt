@@ -10,9 +10,8 @@ use crate::events::{Event, events_of};
 use crate::frames::is_of;
 use crate::texts::{Texts, put};
 use indexmap::IndexSet;
-use rl_grammar::ReadFault;
 use rl_grammar::syntax::{Definition, Statement};
-use rl_steps::Step;
+use rl_grammar::{ReadFault, Step};
 use std::alloc::Global;
 
 fn put_text<'a>(names: &mut Texts<'a>, text: &'a [u8]) -> Result<(), ReadFault>

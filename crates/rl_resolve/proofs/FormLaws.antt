@@ -18,7 +18,7 @@ use Rattle.rl_model.specs.Specification.{Root, Plain, Scanner, root_of}
 use Rattle.rl_model.specs.Counts.{root_size, root_depth, trees_of, actions_in, stamps_in}
 use Rattle.rl_model.specs.WellFormed.{IsNumber, IsInAlphabet}
 use Rattle.rl_includes.specs.declared.unrolled.Unrolled.{Unrolled}
-use Rattle.rl_steps.specs.declared.step.Step.{Step}
+use Rattle.rl_grammar.specs.declared.step.Step.{Step}
 use Rattle.rl_draft.specs.declared.draft.Draft.{Draft}
 use Rattle.rl_names.specs.Answers as names
 use Rattle.rl_names.specs.Drafts.{draft_of}

@@ -12,7 +12,7 @@ use Rattle.rl_grammar.specs.declared.read_fault.ReadFault.TheVariants as reason
 use Rattle.rl_grammar.specs.declared.syntax.Definition.{Definition as Written}
 use Rattle.rl_grammar.specs.declared.syntax.Statement.{Statement}
 use Rattle.rl_grammar.specs.declared.syntax.Statement.TheVariants as statement
-use Rattle.rl_steps.specs.declared.step.Step.{Step}
+use Rattle.rl_grammar.specs.declared.step.Step.{Step}
 use Rattle.rl_includes.specs.declared.unrolled.Unrolled.{Unrolled}
 use Rattle.rl_draft.specs.declared.draft.Definition.{Definition}
 use Rattle.rl_draft.specs.declared.draft.Draft.{Draft}

@@ -2,7 +2,7 @@
 use Rattle.std.specs.Prelude.{◌≡◌, ℕ, Bool, false, List}
 use Rattle.indexmap.specs.IndexMap.{IndexMap}
 use Rattle.rl_names.specs.TableForms.{Text, told_in}
-use Rattle.rl_steps.specs.declared.step.Step.{Step}
+use Rattle.rl_grammar.specs.declared.step.Step.{Step}
 use Rattle.rl_resolve.specs.Resolving.{has_instance}
 
 -- what a table says of a machine; one that is not there has no instantiation

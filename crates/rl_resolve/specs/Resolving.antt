@@ -10,7 +10,7 @@ use Rattle.rl_grammar.specs.declared.syntax.DefinitionSign.{DefinitionSign}
 use Rattle.rl_grammar.specs.declared.syntax.DefinitionSign.TheVariants as sign
 use Rattle.rl_grammar.specs.declared.syntax.Statement.{Statement}
 use Rattle.rl_grammar.specs.declared.syntax.Statement.TheVariants as statement
-use Rattle.rl_steps.specs.declared.step.Step.{Step}
+use Rattle.rl_grammar.specs.declared.step.Step.{Step}
 use Rattle.rl_includes.specs.declared.unrolled.Unrolled.{Unrolled}
 use Rattle.rl_draft.specs.declared.draft.Draft.{Draft}
 use Rattle.rl_names.specs.Answers.{or_else, first_of}

@@ -10,9 +10,9 @@ use crate::answer::{ResolveFault, Runs};
 use crate::instances::{instance_fault, machine_fault};
 use crate::refusals::{check_stop, named, refuse, told};
 use rl_draft::Draft;
+use rl_grammar::Step;
 use rl_includes::Unrolled;
 use rl_names::{check_built, check_leaves, check_names, drafts, machine_names};
-use rl_steps::Step;
 use rl_types::{List, Name};
 use std::alloc::Global;
 

@@ -9,9 +9,8 @@ ghost use Rattle.rl_resolve.specs.declared.answer.ResolveFault.TheVariants as re
 
 use crate::answer::{ResolveFault, Runs};
 use crate::instantiated::{Instantiated, has_in, instantiated};
-use rl_grammar::ReadFault;
 use rl_grammar::syntax::Statement;
-use rl_steps::Step;
+use rl_grammar::{ReadFault, Step};
 use rl_types::{Fault, FaultKind, Name, Place};
 use std::alloc::Global;
 

@@ -7,8 +7,8 @@ ghost use Rattle.rl_resolve.specs.declared.answer.ResolveFault.TheVariants as re
 
 use crate::answer::ResolveFault;
 use indexmap::IndexMap;
+use rl_grammar::Step;
 use rl_grammar::syntax::{DefinitionSign, Statement};
-use rl_steps::Step;
 use std::alloc::Global;
 
 /// Whether machines have an instantiation; one that is not there has none.

@@ -7,9 +7,8 @@ ghost use Rattle.rl_resolve.specs.Refusals.{Told, told};
 use crate::answer::ResolveFault;
 use crate::instances::is_of;
 use crate::refusals::refuse;
-use rl_grammar::ReadFault;
 use rl_grammar::syntax::Statement;
-use rl_steps::Step;
+use rl_grammar::{ReadFault, Step};
 use rl_types::{Limit, Name, Place};
 use std::alloc::Global;
 

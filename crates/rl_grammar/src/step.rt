@@ -1,5 +1,5 @@
 // A statement with what is around it.
-use rl_grammar::syntax::Statement;
+use crate::syntax::Statement;
 use rl_types::Name;
 
 /// A statement with what is around it.

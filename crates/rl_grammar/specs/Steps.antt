@@ -1,6 +1,6 @@
 -- Where a statement stands.
 use Rattle.std.specs.Prelude.{Bool, not, ◌==◌}
-use Rattle.rl_steps.specs.declared.step.Step.{Step}
+use Rattle.rl_grammar.specs.declared.step.Step.{Step}
 
 -- it stands in an included file
 abbrev pub is_included : Step → Bool
