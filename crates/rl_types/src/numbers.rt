@@ -1,7 +1,6 @@
 // Numbers and places.
 
-/// A key of an alphabet: what a machine sees of one character of the input (the guide's section 3.2; this profile
-/// has the alphabets `char` and `unsigned char`).
+/// A key of an alphabet: what a machine sees of one character of the input (the guide's section 3.2).
 #[derive(Clone, Copy, Debug, PartialEq, Eq, PartialOrd, Ord)]
 pub struct Key(pub i64);
 

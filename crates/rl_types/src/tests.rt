@@ -6,7 +6,23 @@ fn bytes_have_keys(rt: HostRuntime) {
     for (byte, signed, unsigned) in [(0, 0, 0), (127, 127, 127), (128, -128, 128), (255, -1, 255)] {
         assert_eq!(rt; Alphabet::Char.key_of(byte), Key(signed));
         assert_eq!(rt; Alphabet::UnsignedChar.key_of(byte), Key(unsigned));
+        assert_eq!(rt; Alphabet::Short.key_of(byte), Key(unsigned));
     }
+}
+
+#[test]
+fn characters_have_keys(rt: HostRuntime) {
+    let bytes = b"a\x01\xff\xff\xff".as_slice();
+    assert_eq!(rt; Alphabet::Short.key_at(bytes, 0), Some(Key(353)));
+    assert_eq!(rt; Alphabet::Short.key_at(bytes, 2), Some(Key(-1)));
+    assert_eq!(rt; Alphabet::UnsignedShort.key_at(bytes, 3), Some(Key(65_535)));
+    assert_eq!(rt; Alphabet::UnsignedShort.key_at(bytes, 4), None);
+    assert_eq!(rt; Alphabet::Int.key_at(bytes, 1), Some(Key(-255)));
+    assert_eq!(rt;
+        Alphabet::UnsignedInt.key_at(bytes, 1),
+        Some(Key(4_294_967_041))
+    );
+    assert_eq!(rt; Alphabet::UnsignedInt.key_at(bytes, 2), None);
 }
 
 #[test]
