@@ -22,10 +22,10 @@ pub fn turns_descend()
 {}
 
 /// Two machines whose look-ups agree at states that stand for each other make the same runs, but for the numbers of
-/// actions.
+/// actions, and end in states that stand for each other.
 pub fn twins_make_same_runs()
     ensures { (m w : Machine ℕ) (rename : ℕ → ℕ) (stands : ℕ → ℕ → Bool) →
-        IsTwin m w rename (λ q p. IsTrue (stands q p)) → MakeSameRuns m w rename }
+        IsTwin m w rename (λ q p. IsTrue (stands q p)) → MakeSameRuns m w rename (λ q p. IsTrue (stands q p)) }
 {}
 
 /// A twin of a twin is a twin.
