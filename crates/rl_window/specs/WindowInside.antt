@@ -4,7 +4,7 @@ use Rattle.rl_window.specs.WindowValue.{WindowValue, Fits}
 use Rattle.rl_window.specs.declared.window.Window.TheInside.{Inside}
 
 abbrev pub window_value : Inside → WindowValue
-window_value w = record { base = w.base; bytes = w.bytes.items; capacity = w.capacity }
+window_value w = record { width = w.width; base = w.base; bytes = w.bytes.items; capacity = w.capacity }
 
 -- the room is reserved
 pub record IsWindow (w : Inside) : Type 0 where
