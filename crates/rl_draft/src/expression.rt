@@ -78,6 +78,13 @@ pub enum Negation {
     Character,
 }
 
+/// The sign of a negation.
+#[derive(Clone, Copy, Debug, PartialEq, Eq)]
+pub struct NegationSign {
+    pub negation: Negation,
+    pub place: Place,
+}
+
 /// The transitions that an embedding speaks of.
 #[derive(Clone, Copy, Debug, PartialEq, Eq)]
 pub enum Transitions {
@@ -116,8 +123,8 @@ pub enum Expression {
     Chain(Boxed<Expression>, List<Link>, Place),
     /// An operand with its repetitions, the innermost first.
     Repeated(Boxed<Expression>, List<Repetition>, Place),
-    /// An operand with its negations, the outermost first.
-    Negated(List<Negation>, Boxed<Expression>, Place),
+    /// An operand behind the signs of its negations, the outermost first; the expression's first token is the first of them.
+    Negated(List<NegationSign>, Boxed<Expression>),
     /// An operand with what is embedded in it, in order of appearance.
     Embedded(Boxed<Expression>, List<Put>, Place),
 }

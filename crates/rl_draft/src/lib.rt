@@ -6,5 +6,6 @@ pub mod expression;
 
 pub use draft::{Definition, Draft, Pattern, Sign, Value};
 pub use expression::{
-    Bounds, Expression, Item, Join, Leaf, Link, Negation, Put, Repetition, Transitions,
+    Bounds, Expression, Item, Join, Leaf, Link, Negation, NegationSign, Put, Repetition,
+    Transitions,
 };

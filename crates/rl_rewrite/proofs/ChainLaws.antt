@@ -5,7 +5,7 @@ use Rattle.rl_draft.specs.declared.expression.Expression.{Expression}
 use Rattle.rl_draft.specs.declared.expression.Expression.TheOpen as level
 use Rattle.rl_draft.specs.declared.expression.Expression.TheVariants.{Chain, Repeated, Negated, rolls-Chain, rolls-Repeated, rolls-Negated}
 use Rattle.rl_draft.specs.declared.expression.Repetition.{Repetition}
-use Rattle.rl_draft.specs.declared.expression.Negation.{Negation}
+use Rattle.rl_draft.specs.declared.expression.NegationSign.{NegationSign}
 use Rattle.rl_draft.specs.declared.expression.Expression.TheFolds.{fold-roll-Expression}
 use Rattle.rl_draft.specs.declared.expression.Link.{Link}
 use Rattle.rl_types.specs.declared.alphabet.Alphabet.{Alphabet}
@@ -79,15 +79,15 @@ chain_walk alphabet known e f a ls os at c h g k =
 plain_repeated : (alphabet : Alphabet) (known : List Plain) (a : Expression) (rs : List Repetition) (at : Place) → plain alphabet known (Repeated a rs at) ≡ all_repeated rs (plain alphabet known a) at
 plain_repeated alphabet known a rs at = ap (plain alphabet known) (sym (rolls-Repeated a rs at)) ∙ fold-roll-Expression Plain Operand (expression_step alphabet known) link_step (level.Repeated a rs at)
 
-plain_negated : (alphabet : Alphabet) (known : List Plain) (ns : List Negation) (a : Expression) (at : Place) → plain alphabet known (Negated ns a at) ≡ all_negated alphabet ns (plain alphabet known a) at
-plain_negated alphabet known ns a at = ap (plain alphabet known) (sym (rolls-Negated ns a at)) ∙ fold-roll-Expression Plain Operand (expression_step alphabet known) link_step (level.Negated ns a at)
+plain_negated : (alphabet : Alphabet) (known : List Plain) (ns : List NegationSign) (a : Expression) → plain alphabet known (Negated ns a) ≡ all_negated alphabet ns (plain alphabet known a)
+plain_negated alphabet known ns a = ap (plain alphabet known) (sym (rolls-Negated ns a)) ∙ fold-roll-Expression Plain Operand (expression_step alphabet known) link_step (level.Negated ns a)
 
 pub repeated_is : (alphabet : Alphabet) (known : List Plain) (e f a : Expression) (ls rs : List Repetition) (at : Place) → e ≡ Repeated a rs at → f ≡ a → ls ≡ rs
     → plain alphabet known e ≡ all_repeated ls (plain alphabet known f) at
 repeated_is alphabet known e f a ls rs at h g k =
     ap (plain alphabet known) h ∙ plain_repeated alphabet known a rs at ∙ ap (λ z. all_repeated rs (plain alphabet known z) at) (sym g) ∙ ap (λ z. all_repeated z (plain alphabet known f) at) (sym k)
 
-pub negated_is : (alphabet : Alphabet) (known : List Plain) (e f a : Expression) (ls ns : List Negation) (at : Place) → e ≡ Negated ns a at → f ≡ a → ls ≡ ns
-    → plain alphabet known e ≡ all_negated alphabet ls (plain alphabet known f) at
-negated_is alphabet known e f a ls ns at h g k =
-    ap (plain alphabet known) h ∙ plain_negated alphabet known ns a at ∙ ap (λ z. all_negated alphabet ns (plain alphabet known z) at) (sym g) ∙ ap (λ z. all_negated alphabet z (plain alphabet known f) at) (sym k)
+pub negated_is : (alphabet : Alphabet) (known : List Plain) (e f a : Expression) (ls ns : List NegationSign) → e ≡ Negated ns a → f ≡ a → ls ≡ ns
+    → plain alphabet known e ≡ all_negated alphabet ls (plain alphabet known f)
+negated_is alphabet known e f a ls ns h g k =
+    ap (plain alphabet known) h ∙ plain_negated alphabet known ns a ∙ ap (λ z. all_negated alphabet ns (plain alphabet known z)) (sym g) ∙ ap (λ z. all_negated alphabet z (plain alphabet known f)) (sym k)

@@ -14,6 +14,7 @@ use Rattle.rl_draft.specs.declared.expression.Repetition.{Repetition}
 use Rattle.rl_draft.specs.declared.expression.Repetition.TheVariants as repetition
 use Rattle.rl_draft.specs.declared.expression.Negation.{Negation}
 use Rattle.rl_draft.specs.declared.expression.Negation.TheVariants as negation
+use Rattle.rl_draft.specs.declared.expression.NegationSign.{NegationSign}
 use Rattle.rl_draft.specs.declared.expression.Item.{Item}
 use Rattle.rl_draft.specs.declared.expression.Expression.{Expression}
 use Rattle.rl_draft.specs.declared.expression.Expression.TheVariants.{Chain, Repeated, Negated}
@@ -160,11 +161,11 @@ whole_measured : (alphabet : Alphabet) (n : Negation) (at : Place) → measured 
 whole_measured alphabet negation.Language at = refl
 whole_measured alphabet negation.Character at = refl
 
-pub negated_cut : (alphabet : Alphabet) (ns : List Negation) (q : Plain) (at : Place) → all_negated_size (cut (measured q)) ns ≡ cut (measured (all_negated alphabet ns q at))
-negated_cut alphabet [] q at = refl
-negated_cut alphabet (n ∷ ns) q at =
-    ap (λ z. cut (both (whole_size n) z 1 1)) (negated_cut alphabet ns q at) ∙ both_cut (whole_size n) (measured (all_negated alphabet ns q at))
-    ∙ ap (λ z. cut (both z (measured (all_negated alphabet ns q at)) 1 1)) (sym (whole_measured alphabet n at))
+pub negated_cut : (alphabet : Alphabet) (ns : List NegationSign) (q : Plain) → all_negated_size (cut (measured q)) ns ≡ cut (measured (all_negated alphabet ns q))
+negated_cut alphabet [] q = refl
+negated_cut alphabet (n ∷ ns) q =
+    ap (λ z. cut (both (whole_size n.negation) z 1 1)) (negated_cut alphabet ns q) ∙ both_cut (whole_size n.negation) (measured (all_negated alphabet ns q))
+    ∙ ap (λ z. cut (both z (measured (all_negated alphabet ns q)) 1 1)) (sym (whole_measured alphabet n.negation n.place))
 
 -- ---- rows
 
@@ -341,10 +342,10 @@ pub repeated_whole : (alphabet : Alphabet) (known : List Plain) (e f a : Express
 repeated_whole alphabet known e f a ls rs at s h g k i =
     ap (λ z. all_repeated_size z ls) i ∙ repeated_cut ls (plain alphabet known f) at ∙ ap (λ z. cut (measured z)) (sym (repeated_is alphabet known e f a ls rs at h g k))
 
-pub negated_whole : (alphabet : Alphabet) (known : List Plain) (e f a : Expression) (ls ns : List Negation) (at : Place) (s : Size) → e ≡ Negated ns a at → f ≡ a → ls ≡ ns
+pub negated_whole : (alphabet : Alphabet) (known : List Plain) (e f a : Expression) (ls ns : List NegationSign) (s : Size) → e ≡ Negated ns a → f ≡ a → ls ≡ ns
     → s ≡ cut (measured (plain alphabet known f)) → all_negated_size s ls ≡ cut (measured (plain alphabet known e))
-negated_whole alphabet known e f a ls ns at s h g k i =
-    ap (λ z. all_negated_size z ls) i ∙ negated_cut alphabet ls (plain alphabet known f) at ∙ ap (λ z. cut (measured z)) (sym (negated_is alphabet known e f a ls ns at h g k))
+negated_whole alphabet known e f a ls ns s h g k i =
+    ap (λ z. all_negated_size z ls) i ∙ negated_cut alphabet ls (plain alphabet known f) ∙ ap (λ z. cut (measured z)) (sym (negated_is alphabet known e f a ls ns h g k))
 
 -- the cut of a size is cut
 pub known_cut : (q : Plain) (s : Size) → s ≡ cut (measured q) → IsCut s

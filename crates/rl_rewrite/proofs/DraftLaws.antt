@@ -1,10 +1,11 @@
 -- The sets of what a draft's definitions stand for.
-use Rattle.std.proofs.Common.{◌≡◌, ℕ, zero, suc, ◌++◌, Bool, true, false, cond, List, [], ◌∷◌, map, Option, Some, None, refl, ap, sym, subst, ◌∙◌}
+use Rattle.std.proofs.Common.{◌<ℤ◌, ints, ◌≡◌, ℕ, zero, suc, ◌++◌, Bool, true, false, cond, List, [], ◌∷◌, map, Option, Some, None, refl, ap, sym, subst, ◌∙◌}
 use Rattle.std.specs.Prelude.{All, slice_get, option_to_list}
 use Rattle.std.specs.List.{flat_map}
 use Rattle.std.proofs.lemmas.List.Elements.{All-nil, All-cons, All-append, All-head, All-tail}
 use Rattle.rl_types.specs.declared.alphabet.Alphabet.{Alphabet}
 use Rattle.rl_types.specs.declared.numbers.Place.{Place}
+use Rattle.rl_types.specs.Alphabet.{least_key, greatest_key}
 use Rattle.rl_types.specs.KeyRange.{Range}
 use Rattle.rl_draft.specs.declared.expression.Expression.{Expression}
 use Rattle.rl_draft.specs.declared.expression.Expression.TheOpen.{Expression-F, Link-F}
@@ -20,6 +21,7 @@ use Rattle.rl_draft.specs.declared.expression.Repetition.{Repetition}
 use Rattle.rl_draft.specs.declared.expression.Repetition.TheVariants as repetition
 use Rattle.rl_draft.specs.declared.expression.Negation.{Negation}
 use Rattle.rl_draft.specs.declared.expression.Negation.TheVariants as negation
+use Rattle.rl_draft.specs.declared.expression.NegationSign.{NegationSign}
 use Rattle.rl_rewrite.specs.Plain as p
 use Rattle.rl_rewrite.specs.Plain.{Plain, Operand, any, joined, repeated, all_repeated, all_negated, whole, item, character, starred, behind, row, leaf_plain, chained, named, no_place, expression_step, link_step, plain, operand, value_plain, plains_behind, plains}
 use Rattle.rl_rewrite.specs.Drafts as drafts
@@ -77,9 +79,9 @@ module _ (alphabet : Alphabet) (P : List Range → Type 0) (h_any : P (any alpha
   whole_sets negation.Language at = h_any
   whole_sets negation.Character at = h_any
 
-  all_negated_sets : (ms : List Negation) (a : Plain) (at : Place) → AreSets P a → AreSets P (all_negated alphabet ms a at)
-  all_negated_sets [] a at h = h
-  all_negated_sets (m ∷ ms) a at h = (whole_sets m at, all_negated_sets ms a at h)
+  all_negated_sets : (ms : List NegationSign) (a : Plain) → AreSets P a → AreSets P (all_negated alphabet ms a)
+  all_negated_sets [] a h = h
+  all_negated_sets (m ∷ ms) a h = (whole_sets m.negation m.place, all_negated_sets ms a h)
 
   item_case : (b : Bool) (r : Option (List Range)) (at : Place) → All P (option_to_list r) → AreSets P (cond b (starred (character r at) at) (character r at))
   item_case true None at h = tt
@@ -143,7 +145,7 @@ module _ (alphabet : Alphabet) (P : List Range → Type 0) (h_any : P (any alpha
         let ys = flat_map (λ (y : Sets). y) (map link_parts (map (λ l. l.0) os)) in
         chain_sets (plain alphabet known a.0) os at (a.1 (all_left P xs ys h)) (all_right P xs ys h)
     level_sets (level.Repeated a rs at) h = all_repeated_sets rs (plain alphabet known a.0) at (a.1 h)
-    level_sets (level.Negated ms a at) h = all_negated_sets ms (plain alphabet known a.0) at (a.1 h)
+    level_sets (level.Negated ms a) h = all_negated_sets ms (plain alphabet known a.0) (a.1 h)
     level_sets (level.Embedded a ps at) h = a.1 h
 
     plain_sets : (e : Expression) → HasSets e
@@ -197,9 +199,25 @@ entries_sets P cs (m ∷ ms) h =
     All-append (HasMadeSets P) (made_by cs m) (entries (conditions_by cs m) ms) (made_sets P (is_entry m.sign) cs m (All-head Q m ms h))
     (entries_sets P (conditions_by cs m) ms (All-tail Q m ms h))
 
+any_is_in : (alphabet : Alphabet) → IsInAlphabet alphabet (record { lo = least_key alphabet; hi = greatest_key alphabet })
+any_is_in alphabets.Char = refl
+any_is_in alphabets.UnsignedChar = refl
+any_is_in alphabets.Short = refl
+any_is_in alphabets.UnsignedShort = refl
+any_is_in alphabets.Int = refl
+any_is_in alphabets.UnsignedInt = refl
+
 any_is_set : (alphabet : Alphabet) → IsSet alphabet (any alphabet)
-any_is_set alphabets.Char = (tt, All-cons (IsInAlphabet alphabets.Char) _ [] refl (All-nil (IsInAlphabet alphabets.Char)))
-any_is_set alphabets.UnsignedChar = (tt, All-cons (IsInAlphabet alphabets.UnsignedChar) _ [] refl (All-nil (IsInAlphabet alphabets.UnsignedChar)))
+any_is_set alphabet = (tt, All-cons (IsInAlphabet alphabet) _ [] (any_is_in alphabet) (All-nil (IsInAlphabet alphabet)))
+
+-- the ends of an alphabet ascend
+pub keys_ascend : (alphabet : Alphabet) → greatest_key alphabet <ℤ least_key alphabet → ⊥
+keys_ascend alphabets.Char h = omega (ints, h)
+keys_ascend alphabets.UnsignedChar h = omega (ints, h)
+keys_ascend alphabets.Short h = omega (ints, h)
+keys_ascend alphabets.UnsignedShort h = omega (ints, h)
+keys_ascend alphabets.Int h = omega (ints, h)
+keys_ascend alphabets.UnsignedInt h = omega (ints, h)
 
 -- the sets of all entries are in order and in the alphabet
 pub entries_in_form : (draft : Draft) (es : List rust.Entry) → HasSetsInForm draft → map made_of es ≡ entries [] (meanings draft)

@@ -20,6 +20,9 @@ use Rattle.rl_rewrite.specs.Sizes.{nodes, depth}
 abbrev at : Place
 at = record { file = 0; line = 1; col = 1 }
 
+abbrev second : Place
+second = record { file = 0; line = 1; col = 2 }
+
 abbrev later : Place
 later = record { file = 0; line = 1; col = 7 }
 
@@ -113,9 +116,15 @@ without : walk (joined Char join.StrongDifference letter other at) (begun [])
     )
 without = refl
 
--- !^[a-z]
-negated : rewritten (all_negated Char (negation.Language ∷ negation.Character ∷ []) letter at)
-    ≡ n.Minus (n.Star (n.Set (any Char)) 1) (n.Minus (n.Set (any Char)) small)
+-- !^[a-z], with the place of each node: what a negation makes stands at its own sign
+negated : walk (all_negated Char (record { negation = negation.Language; place = at } ∷ record { negation = negation.Character; place = second } ∷ []) other) (begun [])
+    ≡ (
+      record {
+        node = n.Minus (n.Star (n.Set (any Char)) 1) (n.Minus (n.Set (any Char)) small);
+        places = at ∷ at ∷ second ∷ later ∷ second ∷ at ∷ [];
+      },
+      record { stamp = 1; names = []; conditions = [] },
+    )
 negated = refl
 
 -- [a-z] when A %~C >~B when B when A: conditions by their first `when`, and the start's mark first

@@ -21,7 +21,7 @@ expression_weight (level.Leaf l at) = 1
 expression_weight (level.Name n) = 1
 expression_weight (level.Chain k ks at) = k + total ks + 1
 expression_weight (level.Repeated k rs at) = k + 1
-expression_weight (level.Negated ns k at) = k + length ns + 1
+expression_weight (level.Negated ns k) = k + length ns + 1
 expression_weight (level.Embedded k ps at) = k + 1
 
 abbrev link_weight : Link-F ℕ ℕ → ℕ

@@ -33,7 +33,7 @@ level_sets (level.Leaf l at) = leaf_sets l
 level_sets (level.Name n) = []
 level_sets (level.Chain x ys at) = x ++ flat_map (λ (y : Sets). y) ys
 level_sets (level.Repeated x rs at) = x
-level_sets (level.Negated ns x at) = x
+level_sets (level.Negated ns x) = x
 level_sets (level.Embedded x ps at) = x
 
 abbrev pub link_sets : Link-F Sets Sets → Sets

@@ -1,6 +1,7 @@
 -- The entries of a machine, and the first limit that one of them passes. The limits are this profile's.
 use Rattle.std.specs.Prelude.{◌≡◌, ℕ, ◌≤◌, Bool, true, false, cond, nat_lt, List, [], ◌∷◌, ◌++◌, length, map, Option, Some, None, All}
 use Rattle.std.specs.List.{flat_map}
+use Rattle.rl_types.specs.declared.alphabet.Alphabet.{Alphabet}
 use Rattle.rl_types.specs.declared.numbers.Place.{Place}
 use Rattle.rl_types.specs.declared.numbers.ActionId.{ActionId}
 use Rattle.rl_types.specs.declared.faults.Limit.{Limit}
@@ -46,8 +47,12 @@ meanings_of [] ps = []
 meanings_of (d ∷ ds) [] = []
 meanings_of (d ∷ ds) (p ∷ ps) = meaning d p ∷ meanings_of ds ps
 
+-- what these definitions of a machine with an alphabet stand for
+abbrev pub meanings_in : Alphabet → List Definition → List Meaning
+meanings_in alphabet definitions = meanings_of definitions (plains alphabet definitions)
+
 abbrev pub meanings : Draft → List Meaning
-meanings draft = meanings_of draft.definitions (plains draft.alphabet draft.definitions)
+meanings draft = meanings_in draft.alphabet draft.definitions
 
 abbrev pub is_entry : Sign → Bool
 is_entry sign.Name = false

@@ -7,6 +7,7 @@ use Rattle.rl_draft.specs.declared.expression.Repetition.{Repetition}
 use Rattle.rl_draft.specs.declared.expression.Repetition.TheVariants as repetition
 use Rattle.rl_draft.specs.declared.expression.Negation.{Negation}
 use Rattle.rl_draft.specs.declared.expression.Negation.TheVariants as negation
+use Rattle.rl_draft.specs.declared.expression.NegationSign.{NegationSign}
 use Rattle.rl_draft.specs.declared.expression.Item.{Item}
 use Rattle.rl_draft.specs.declared.draft.Definition.{Definition}
 use Rattle.rl_rewrite.specs.declared.sizes.Size.{Size}
@@ -69,9 +70,9 @@ whole_size negation.Language = record { nodes = 2; depth = 2 }
 whole_size negation.Character = one
 
 -- the outermost first
-abbrev pub all_negated_size : Size → List Negation → Size
+abbrev pub all_negated_size : Size → List NegationSign → Size
 all_negated_size s [] = s
-all_negated_size s (n ∷ ns) = cut (both (whole_size n) (all_negated_size s ns) 1 1)
+all_negated_size s (n ∷ ns) = cut (both (whole_size n.negation) (all_negated_size s ns) 1 1)
 
 abbrev pub item_size : Item → Size
 item_size i = cond i.starred (record { nodes = 2; depth = 2 }) one

@@ -18,6 +18,7 @@ use Rattle.rl_draft.specs.declared.expression.Repetition.{Repetition}
 use Rattle.rl_draft.specs.declared.expression.Repetition.TheVariants as repetition
 use Rattle.rl_draft.specs.declared.expression.Negation.{Negation}
 use Rattle.rl_draft.specs.declared.expression.Negation.TheVariants as negation
+use Rattle.rl_draft.specs.declared.expression.NegationSign.{NegationSign}
 use Rattle.rl_draft.specs.declared.expression.Put.{Put}
 use Rattle.rl_draft.specs.declared.draft.Definition.{Definition}
 use Rattle.rl_draft.specs.declared.draft.Value.{Value}
@@ -83,10 +84,10 @@ abbrev pub whole : Alphabet → Negation → Place → Plain
 whole alphabet negation.Language at = every alphabet at
 whole alphabet negation.Character at = Set (any alphabet) at
 
--- the outermost first
-abbrev pub all_negated : Alphabet → List Negation → Plain → Place → Plain
-all_negated alphabet [] p at = p
-all_negated alphabet (n ∷ ns) p at = Pair Less (whole alphabet n at) (all_negated alphabet ns p at) at
+-- the outermost first; each stands at its own sign
+abbrev pub all_negated : Alphabet → List NegationSign → Plain → Plain
+all_negated alphabet [] p = p
+all_negated alphabet (n ∷ ns) p = Pair Less (whole alphabet n.negation n.place) (all_negated alphabet ns p) n.place
 
 -- ---- rows
 
@@ -137,7 +138,7 @@ expression_step alphabet known (level.Leaf l at) = leaf_plain l at
 expression_step alphabet known (level.Name n) = named (slice_get known n)
 expression_step alphabet known (level.Chain p os at) = chained alphabet p os at
 expression_step alphabet known (level.Repeated p rs at) = all_repeated rs p at
-expression_step alphabet known (level.Negated ns p at) = all_negated alphabet ns p at
+expression_step alphabet known (level.Negated ns p) = all_negated alphabet ns p
 expression_step alphabet known (level.Embedded p ps at) = Series p ps at
 
 abbrev pub link_step : Link-F Plain Operand → Operand
@@ -164,3 +165,21 @@ plains_behind alphabet known (d ∷ ds) = plains_behind alphabet (known ++ value
 -- what each definition stands for
 abbrev pub plains : Alphabet → List Definition → List Plain
 plains alphabet ds = plains_behind alphabet [] ds
+
+-- ---- behind definitions
+
+-- what an expression stands for where these definitions stand before it
+abbrev pub followed : Alphabet → List Definition → Expression → Plain
+followed alphabet earlier e = plain alphabet (plains alphabet earlier) e
+
+-- an operand, with its join
+abbrev pub operand_followed : Alphabet → List Definition → Link → Operand
+operand_followed alphabet earlier l = operand alphabet (plains alphabet earlier) l
+
+-- what a definition gives its name to
+abbrev pub value_followed : Alphabet → List Definition → Value → Plain
+value_followed alphabet earlier v = value_plain alphabet (plains alphabet earlier) v
+
+-- the number of a definition
+abbrev pub name_followed : Alphabet → List Definition → ℕ → Plain
+name_followed alphabet earlier n = named (slice_get (plains alphabet earlier) n)

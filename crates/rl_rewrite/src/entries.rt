@@ -10,14 +10,14 @@ ghost use Rattle.rl_model.specs.Specification.{root_of};
 ghost use Rattle.rl_model.specs.WellFormed.{IsNumber};
 ghost use Rattle.rl_model.specs.declared.spec.Entry as entry_type;
 ghost use Rattle.rl_rewrite.specs.Drafts.{IsSet, HasSetsInForm};
-ghost use Rattle.rl_rewrite.specs.Plain.{plains, value_plain};
+ghost use Rattle.rl_rewrite.specs.Plain.{value_followed};
 ghost use Rattle.rl_rewrite.specs.Sizes.{nodes};
 ghost use Rattle.rl_rewrite.specs.Walk as w;
 ghost use Rattle.rl_rewrite.specs.Walk.{begun};
 ghost use Rattle.rl_rewrite.specs.Steps.{placed_of};
 ghost use Rattle.rl_rewrite.specs.Measures.{AreSizes, cut, measured};
 ghost use Rattle.rl_rewrite.specs.Entries as spec;
-ghost use Rattle.rl_rewrite.specs.Entries.{made_of, meaning, meanings, meanings_of, entry, entries, all_conditions, first_limit, limit_at, limit_by, limit_of, earlier_limit, condition_limit, conditions_behind, IsMade, AreSoFar, IsNext, IsRefusal, Refuses};
+ghost use Rattle.rl_rewrite.specs.Entries.{made_of, meaning, meanings, meanings_in, entry, entries, all_conditions, first_limit, limit_at, limit_by, limit_of, earlier_limit, condition_limit, conditions_behind, IsMade, AreSoFar, IsNext, IsRefusal, Refuses};
 
 use crate::counts::Counts;
 use crate::placed::Placed;
@@ -90,9 +90,9 @@ fn walk_entry(
     value: &Value,
     conditions: List<ActionId>,
 ) -> Result<Walked, AllocError>
-    requires room { nodes (value_plain alphabet (plains alphabet earlier.now) value.now) ≤ 100000 }
+    requires room { nodes (value_followed alphabet earlier.now value.now) ≤ 100000 }
     requires few { length conditions ≤ 8 }
-    ensures { IfOk result (λ r. (placed_of r.placed ≡ (w.walk (value_plain alphabet (plains alphabet earlier.now) value.now) (begun conditions)).0) × (r.conditions ≡ (w.walk (value_plain alphabet (plains alphabet earlier.now) value.now) (begun conditions)).1.conditions)) }
+    ensures { IfOk result (λ r. (placed_of r.placed ≡ (w.walk (value_followed alphabet earlier.now value.now) (begun conditions)).0) × (r.conditions ≡ (w.walk (value_followed alphabet earlier.now value.now) (begun conditions)).1.conditions)) }
 {
     let mut counts = Counts {
         stamp: 0,
@@ -136,11 +136,11 @@ fn small_entry(
     d: &Definition,
     made: Rewritten,
 ) -> Result<Rewritten, RewriteFault>
-    requires room { nodes (value_plain alphabet (plains alphabet earlier.now) d.now.value) ≤ 100000 }
+    requires room { nodes (value_followed alphabet earlier.now d.now.value) ≤ 100000 }
     requires few { length made.conditions ≤ 8 }
-    ensures made { IfOk result (λ r. map made_of r.entries ≡ map made_of made.entries ++ entry made.conditions (meaning d.now (value_plain alphabet (plains alphabet earlier.now) d.now.value)) ∷ []) }
-    ensures conditions { IfOk result (λ r. (r.conditions ≡ conditions_behind made.conditions (meaning d.now (value_plain alphabet (plains alphabet earlier.now) d.now.value))) × (length r.conditions ≤ 8)) }
-    ensures refused { IfErr result (λ f. IsRefusal (limit_at (condition_limit (conditions_behind made.conditions (meaning d.now (value_plain alphabet (plains alphabet earlier.now) d.now.value)))) d.now.place None) f) }
+    ensures made { IfOk result (λ r. map made_of r.entries ≡ map made_of made.entries ++ entry made.conditions (meaning d.now (value_followed alphabet earlier.now d.now.value)) ∷ []) }
+    ensures conditions { IfOk result (λ r. (r.conditions ≡ conditions_behind made.conditions (meaning d.now (value_followed alphabet earlier.now d.now.value))) × (length r.conditions ≤ 8)) }
+    ensures refused { IfErr result (λ f. IsRefusal (limit_at (condition_limit (conditions_behind made.conditions (meaning d.now (value_followed alphabet earlier.now d.now.value)))) d.now.place None) f) }
 {
     let Rewritten {
         entries,
@@ -176,10 +176,10 @@ fn next_entry(
     made: Rewritten,
 ) -> Result<Rewritten, RewriteFault>
     requires entry { spec.is_entry d.now.sign ≡ true }
-    requires size { size ≡ cut (measured (value_plain alphabet (plains alphabet earlier.now) d.now.value)) }
+    requires size { size ≡ cut (measured (value_followed alphabet earlier.now d.now.value)) }
     requires few { length made.conditions ≤ 8 }
-    ensures made { IfOk result (λ r. IsNext (meaning d.now (value_plain alphabet (plains alphabet earlier.now) d.now.value)) made r) }
-    ensures refused { IfErr result (λ f. IsRefusal (limit_at (limit_by made.conditions (meaning d.now (value_plain alphabet (plains alphabet earlier.now) d.now.value))) d.now.place None) f) }
+    ensures made { IfOk result (λ r. IsNext (meaning d.now (value_followed alphabet earlier.now d.now.value)) made r) }
+    ensures refused { IfErr result (λ f. IsRefusal (limit_at (limit_by made.conditions (meaning d.now (value_followed alphabet earlier.now d.now.value))) d.now.place None) f) }
 {
     match size_limit(size) {
         Some(kind) => Err(RewriteFault::Limit(Limit {
@@ -200,10 +200,10 @@ fn step(
     size: Size,
     made: Rewritten,
 ) -> Result<Rewritten, RewriteFault>
-    requires size { size ≡ cut (measured (value_plain alphabet (plains alphabet earlier.now) d.now.value)) }
+    requires size { size ≡ cut (measured (value_followed alphabet earlier.now d.now.value)) }
     requires few { length made.conditions ≤ 8 }
-    ensures made { IfOk result (λ r. IsNext (meaning d.now (value_plain alphabet (plains alphabet earlier.now) d.now.value)) made r) }
-    ensures refused { IfErr result (λ f. IsRefusal (limit_at (limit_by made.conditions (meaning d.now (value_plain alphabet (plains alphabet earlier.now) d.now.value))) d.now.place None) f) }
+    ensures made { IfOk result (λ r. IsNext (meaning d.now (value_followed alphabet earlier.now d.now.value)) made r) }
+    ensures refused { IfErr result (λ f. IsRefusal (limit_at (limit_by made.conditions (meaning d.now (value_followed alphabet earlier.now d.now.value))) d.now.place None) f) }
 {
     if is_entry(d.sign) {
         let r = next_entry(alloc, alphabet, earlier, d, size, made)?;
@@ -225,9 +225,9 @@ fn turn(
 ) -> Result<Rewritten, RewriteFault>
     requires sizes { AreSizes alphabet definitions.now sizes.now }
     requires within { i < length definitions.now }
-    requires made { AreSoFar (drop i (meanings_of definitions.now (plains alphabet definitions.now))) (meanings_of definitions.now (plains alphabet definitions.now)) made }
-    ensures made { IfOk result (λ r. AreSoFar (drop (i + 1) (meanings_of definitions.now (plains alphabet definitions.now))) (meanings_of definitions.now (plains alphabet definitions.now)) r) }
-    ensures refused { IfErr result (λ f. IsRefusal (first_limit [] (meanings_of definitions.now (plains alphabet definitions.now))) f) }
+    requires made { AreSoFar (drop i (meanings_in alphabet definitions.now)) (meanings_in alphabet definitions.now) made }
+    ensures made { IfOk result (λ r. AreSoFar (drop (i + 1) (meanings_in alphabet definitions.now)) (meanings_in alphabet definitions.now) r) }
+    ensures refused { IfErr result (λ f. IsRefusal (first_limit [] (meanings_in alphabet definitions.now)) f) }
 {
     let d = &definitions[i];
     let size = sizes[i];
@@ -239,7 +239,7 @@ fn turn(
 // No entry is made so far.
 #[tactic(auto, using(crate::proofs::EntryLaws::so_far_begins))]
 fn begun_with(alloc: Global, alphabet: Alphabet, definitions: &[Definition]) -> Rewritten
-    ensures { AreSoFar (meanings_of definitions.now (plains alphabet definitions.now)) (meanings_of definitions.now (plains alphabet definitions.now)) result }
+    ensures { AreSoFar (meanings_in alphabet definitions.now) (meanings_in alphabet definitions.now) result }
 {
     let _ = definitions;
     let _ = alphabet;
@@ -251,10 +251,10 @@ fn begun_with(alloc: Global, alphabet: Alphabet, definitions: &[Definition]) -> 
 
 // All that is promised, at the end.
 fn ended(alphabet: Alphabet, definitions: &[Definition], made: Rewritten) -> Rewritten
-    requires { AreSoFar (drop (length definitions.now) (meanings_of definitions.now (plains alphabet definitions.now))) (meanings_of definitions.now (plains alphabet definitions.now)) made }
-    ensures entries { map made_of result.entries ≡ entries [] (meanings_of definitions.now (plains alphabet definitions.now)) }
-    ensures conditions { result.conditions ≡ all_conditions [] (meanings_of definitions.now (plains alphabet definitions.now)) }
-    ensures within { first_limit [] (meanings_of definitions.now (plains alphabet definitions.now)) ≡ None }
+    requires { AreSoFar (drop (length definitions.now) (meanings_in alphabet definitions.now)) (meanings_in alphabet definitions.now) made }
+    ensures entries { map made_of result.entries ≡ entries [] (meanings_in alphabet definitions.now) }
+    ensures conditions { result.conditions ≡ all_conditions [] (meanings_in alphabet definitions.now) }
+    ensures within { first_limit [] (meanings_in alphabet definitions.now) ≡ None }
     ensures made { All (λ e. IsMade (made_of e)) result.entries }
     ensures few { length result.conditions ≤ 8 }
     ensures differ { AreDifferent (map (λ (a : ActionId). a.0) result.conditions) }
@@ -272,14 +272,14 @@ fn all_entries(
     sizes: &[Size],
 ) -> Result<Rewritten, RewriteFault>
     requires { AreSizes alphabet definitions.now sizes.now }
-    ensures entries { IfOk result (λ r. map made_of r.entries ≡ entries [] (meanings_of definitions.now (plains alphabet definitions.now))) }
-    ensures conditions { IfOk result (λ r. r.conditions ≡ all_conditions [] (meanings_of definitions.now (plains alphabet definitions.now))) }
-    ensures within { IfOk result (λ r. first_limit [] (meanings_of definitions.now (plains alphabet definitions.now)) ≡ None) }
+    ensures entries { IfOk result (λ r. map made_of r.entries ≡ entries [] (meanings_in alphabet definitions.now)) }
+    ensures conditions { IfOk result (λ r. r.conditions ≡ all_conditions [] (meanings_in alphabet definitions.now)) }
+    ensures within { IfOk result (λ r. first_limit [] (meanings_in alphabet definitions.now) ≡ None) }
     ensures made { IfOk result (λ r. All (λ e. IsMade (made_of e)) r.entries) }
     ensures few { IfOk result (λ r. length r.conditions ≤ 8) }
     ensures differ { IfOk result (λ r. AreDifferent (map (λ (a : ActionId). a.0) r.conditions)) }
     ensures known { IfOk result (λ r. All (λ (e : entry_type.Entry). All (IsNumber (length r.conditions)) (flat_map conditions_in (trees_of (root_of e.root)))) r.entries) }
-    ensures refused { IfErr result (λ f. IsRefusal (first_limit [] (meanings_of definitions.now (plains alphabet definitions.now))) f) }
+    ensures refused { IfErr result (λ f. IsRefusal (first_limit [] (meanings_in alphabet definitions.now)) f) }
 {
     let mut made = begun_with(alloc, alphabet, definitions);
     for i in 0..definitions.len() {

@@ -26,16 +26,13 @@ pub enum Opening {
     Finishing(Placed, u32),
 }
 
+#[tactic(auto, using(crate::proofs::DraftLaws::keys_ascend))]
 fn any(alloc: Global, alphabet: Alphabet) -> Result<List<KeyRange>, AllocError>
     ensures { IfOk result (λ r. r ≡ p.any alphabet) }
 {
     let mut ranges: List<KeyRange> = List::new(alloc);
-    let range = match alphabet {
-        Alphabet::Char => KeyRange::new(-128, 127),
-        Alphabet::UnsignedChar => KeyRange::new(0, 255),
-    };
-    if let Some(r) = range {
-        ranges.push(r)?;
+    if let Some(range) = KeyRange::new(alphabet.least_key(), alphabet.greatest_key()) {
+        ranges.push(range)?;
     }
     Ok(ranges)
 }

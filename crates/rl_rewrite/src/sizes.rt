@@ -1,6 +1,6 @@
 // Nodes and depth of trees before they are made.
 ghost use Rattle.std.specs.Prelude.{◌≡◌, ◌≤◌, min, max, map, slice_get, IfOk};
-ghost use Rattle.rl_rewrite.specs.Plain.{plain, plains, operand, value_plain, leaf_plain, row, named};
+ghost use Rattle.rl_rewrite.specs.Plain.{followed, operand_followed, value_followed, name_followed, leaf_plain, row};
 ghost use Rattle.rl_rewrite.specs.Sizes.{row_nodes, row_depth};
 ghost use Rattle.rl_rewrite.specs.Measures as m;
 ghost use Rattle.rl_rewrite.specs.Measures.{IsCut, AreSizes, cut, measured};
@@ -9,7 +9,7 @@ use crate::leaves::first_item;
 use crate::repeats::has_copies;
 use crate::walk::before;
 use rl_draft::{
-    Bounds, Definition, Expression, Item, Join, Leaf, Link, Negation, Repetition, Value,
+    Bounds, Definition, Expression, Item, Join, Leaf, Link, Negation, NegationSign, Repetition, Value,
 };
 use rl_types::{Alphabet, List};
 use std::alloc::{AllocError, Global};
@@ -175,7 +175,7 @@ fn negated(n: Negation, s: Size) -> Size
     }
 }
 
-fn all_negated_of(ns: &[Negation], s: Size) -> Size
+fn all_negated_of(ns: &[NegationSign], s: Size) -> Size
     requires { IsCut s }
     ensures size { result ≡ m.all_negated_size s ns.now }
     ensures cut { IsCut result }
@@ -184,7 +184,7 @@ fn all_negated_of(ns: &[Negation], s: Size) -> Size
     let mut i = ns.len();
     while i > 0 {
         i -= 1;
-        s = negated(ns[i], s);
+        s = negated(ns[i].negation, s);
     }
     s
 }
@@ -236,7 +236,7 @@ fn leaf_of(leaf: &Leaf) -> Size
 #[tactic(auto, using(crate::proofs::CutLaws::named_size))]
 fn name_of(alphabet: Alphabet, earlier: &[Definition], sizes: &[Size], n: u32) -> Size
     requires { AreSizes alphabet earlier.now sizes.now }
-    ensures size { result ≡ cut (measured (named (slice_get (plains alphabet earlier.now) n))) }
+    ensures size { result ≡ cut (measured (name_followed alphabet earlier.now n)) }
 {
     match sizes.get(n as usize) {
         Some(s) => *s,
@@ -249,7 +249,7 @@ fn name_of(alphabet: Alphabet, earlier: &[Definition], sizes: &[Size], n: u32) -
 #[tactic(auto, using(crate::proofs::CutLaws::chain_size, crate::proofs::Weights::chain_weight, crate::proofs::CutLaws::repeated_cut, crate::proofs::CutLaws::negated_cut, crate::proofs::CutLaws::measured_cut))]
 pub fn size_of(alphabet: Alphabet, earlier: &[Definition], sizes: &[Size], e: &Expression) -> Size
     requires { AreSizes alphabet earlier.now sizes.now }
-    ensures size { result ≡ cut (measured (plain alphabet (plains alphabet earlier.now) e.now)) }
+    ensures size { result ≡ cut (measured (followed alphabet earlier.now e.now)) }
 {
     match e {
         Expression::Leaf(leaf, _) => leaf_of(leaf),
@@ -262,7 +262,7 @@ pub fn size_of(alphabet: Alphabet, earlier: &[Definition], sizes: &[Size], e: &E
             rs.as_slice(),
             size_of(alphabet, earlier, sizes, a.get()),
         ),
-        Expression::Negated(ns, a, _) => all_negated_of(
+        Expression::Negated(ns, a) => all_negated_of(
             ns.as_slice(),
             size_of(alphabet, earlier, sizes, a.get()),
         ),
@@ -287,7 +287,7 @@ fn raised(s: Size, n: usize) -> Size
 fn link_of(alphabet: Alphabet, earlier: &[Definition], sizes: &[Size], link: &Link, s: Size) -> Size
     requires sizes { AreSizes alphabet earlier.now sizes.now }
     requires cut { IsCut s }
-    ensures size { result ≡ cut (m.joined_size (operand alphabet (plains alphabet earlier.now) link.now).join s (cut (measured (operand alphabet (plains alphabet earlier.now) link.now).plain))) }
+    ensures size { result ≡ cut (m.joined_size (operand_followed alphabet earlier.now link.now).join s (cut (measured (operand_followed alphabet earlier.now link.now).plain))) }
     ensures cut { IsCut result }
 {
     let right = size_of(alphabet, earlier, sizes, &link.operand);
@@ -305,7 +305,7 @@ fn links_of(
 ) -> Size
     requires sizes { AreSizes alphabet earlier.now sizes.now }
     requires cut { IsCut s }
-    ensures size { result ≡ m.chained_size s (map (operand alphabet (plains alphabet earlier.now)) links.now) }
+    ensures size { result ≡ m.chained_size s (map (operand_followed alphabet earlier.now) links.now) }
 {
     let mut s = s;
     for link in links {
@@ -317,7 +317,7 @@ fn links_of(
 // The size of what a definition gives its name to.
 fn value_of(alphabet: Alphabet, earlier: &[Definition], sizes: &[Size], value: &Value) -> Size
     requires { AreSizes alphabet earlier.now sizes.now }
-    ensures { result ≡ cut (measured (value_plain alphabet (plains alphabet earlier.now) value.now)) }
+    ensures { result ≡ cut (measured (value_followed alphabet earlier.now value.now)) }
 {
     match value {
         Value::Expression(e) => size_of(alphabet, earlier, sizes, e),

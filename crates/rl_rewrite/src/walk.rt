@@ -1,6 +1,6 @@
 // The walk over an expression whose names are numbers of earlier definitions.
 ghost use Rattle.std.specs.Prelude.{◌≡◌, ◌+◌, ◌*◌, ◌≤◌, ◌∷◌, [], map, slice_get, take, length, Some, MatchOption, IfOk, OnOk};
-ghost use Rattle.rl_rewrite.specs.Plain.{plain, plains, operand, value_plain, named, joined, all_repeated, all_negated};
+ghost use Rattle.rl_rewrite.specs.Plain.{followed, operand_followed, value_followed, name_followed, all_repeated, all_negated};
 ghost use Rattle.rl_rewrite.specs.Plain as p;
 ghost use Rattle.rl_rewrite.specs.Walk as w;
 ghost use Rattle.rl_rewrite.specs.Sizes.{nodes};
@@ -13,7 +13,7 @@ use crate::leaves::walk_leaf;
 use crate::placed::{Pairing, Placed, pair, single};
 use crate::repeats::{are_copies, behind_uncopied, repeat_all};
 use rl_automata::Tree;
-use rl_draft::{Definition, Expression, Link, Negation, Put, Repetition, Value};
+use rl_draft::{Definition, Expression, Link, NegationSign, Put, Repetition, Value};
 use rl_types::{Alphabet, Place};
 use std::alloc::{AllocError, Global};
 
@@ -34,9 +34,9 @@ pub fn walk(
     e: &Expression,
     counts: &mut Counts,
 ) -> Result<Placed, AllocError>
-    requires room { HasRoom counts.old (nodes (plain alphabet (plains alphabet earlier.now) e.now)) }
-    ensures tree { IfOk result (λ r. (placed_of r, counts.new) ≡ w.walk (plain alphabet (plains alphabet earlier.now) e.now) counts.old) }
-    ensures stamp { OnOk result (counts.new.stamp ≤ counts.old.stamp + 3 * nodes (plain alphabet (plains alphabet earlier.now) e.now)) }
+    requires room { HasRoom counts.old (nodes (followed alphabet earlier.now e.now)) }
+    ensures tree { IfOk result (λ r. (placed_of r, counts.new) ≡ w.walk (followed alphabet earlier.now e.now) counts.old) }
+    ensures stamp { OnOk result (counts.new.stamp ≤ counts.old.stamp + 3 * nodes (followed alphabet earlier.now e.now)) }
     ensures few { OnOk result (AreFew counts.new) }
 {
     match e {
@@ -63,13 +63,12 @@ pub fn walk(
             *at,
             counts,
         ),
-        Expression::Negated(ns, a, at) => walk_negated(
+        Expression::Negated(ns, a) => walk_negated(
             alloc,
             alphabet,
             earlier,
             ns.as_slice(),
             a.get(),
-            *at,
             counts,
         ),
         Expression::Embedded(a, puts, at) => walk_embedded(
@@ -113,9 +112,9 @@ fn walk_name(
     n: u32,
     counts: &mut Counts,
 ) -> Result<Placed, AllocError>
-    requires room { HasRoom counts.old (nodes (named (slice_get (plains alphabet earlier.now) n))) }
-    ensures tree { IfOk result (λ r. (placed_of r, counts.new) ≡ w.walk (named (slice_get (plains alphabet earlier.now) n)) counts.old) }
-    ensures stamp { OnOk result (counts.new.stamp ≤ counts.old.stamp + 3 * nodes (named (slice_get (plains alphabet earlier.now) n))) }
+    requires room { HasRoom counts.old (nodes (name_followed alphabet earlier.now n)) }
+    ensures tree { IfOk result (λ r. (placed_of r, counts.new) ≡ w.walk (name_followed alphabet earlier.now n) counts.old) }
+    ensures stamp { OnOk result (counts.new.stamp ≤ counts.old.stamp + 3 * nodes (name_followed alphabet earlier.now n)) }
     ensures few { OnOk result (AreFew counts.new) }
 {
     match definition_at(earlier, n as usize) {
@@ -133,9 +132,9 @@ pub fn walk_value(
     value: &Value,
     counts: &mut Counts,
 ) -> Result<Placed, AllocError>
-    requires room { HasRoom counts.old (nodes (value_plain alphabet (plains alphabet earlier.now) value.now)) }
-    ensures tree { IfOk result (λ r. (placed_of r, counts.new) ≡ w.walk (value_plain alphabet (plains alphabet earlier.now) value.now) counts.old) }
-    ensures stamp { OnOk result (counts.new.stamp ≤ counts.old.stamp + 3 * nodes (value_plain alphabet (plains alphabet earlier.now) value.now)) }
+    requires room { HasRoom counts.old (nodes (value_followed alphabet earlier.now value.now)) }
+    ensures tree { IfOk result (λ r. (placed_of r, counts.new) ≡ w.walk (value_followed alphabet earlier.now value.now) counts.old) }
+    ensures stamp { OnOk result (counts.new.stamp ≤ counts.old.stamp + 3 * nodes (value_followed alphabet earlier.now value.now)) }
     ensures few { OnOk result (AreFew counts.new) }
 {
     match value {
@@ -155,9 +154,9 @@ fn walk_link(
     x: Placed,
     counts: &mut Counts,
 ) -> Result<Placed, AllocError>
-    requires room { HasRoom counts.old (operand_nodes (operand alphabet (plains alphabet earlier.now) link.now ∷ [])) }
-    ensures tree { IfOk result (λ r. (placed_of r, counts.new) ≡ joined_on alphabet at (operand alphabet (plains alphabet earlier.now) link.now) (placed_of x) counts.old) }
-    ensures stamp { OnOk result (counts.new.stamp ≤ counts.old.stamp + 3 * operand_nodes (operand alphabet (plains alphabet earlier.now) link.now ∷ [])) }
+    requires room { HasRoom counts.old (operand_nodes (operand_followed alphabet earlier.now link.now ∷ [])) }
+    ensures tree { IfOk result (λ r. (placed_of r, counts.new) ≡ joined_on alphabet at (operand_followed alphabet earlier.now link.now) (placed_of x) counts.old) }
+    ensures stamp { OnOk result (counts.new.stamp ≤ counts.old.stamp + 3 * operand_nodes (operand_followed alphabet earlier.now link.now ∷ [])) }
     ensures few { OnOk result (AreFew counts.new) }
 {
     let opening = open(alloc, alphabet, link.join, at, x, counts)?;
@@ -177,9 +176,9 @@ fn walk_links(
     x: Placed,
     counts: &mut Counts,
 ) -> Result<Placed, AllocError>
-    requires room { HasRoom counts.old (operand_nodes (map (operand alphabet (plains alphabet earlier.now)) links.now)) }
-    ensures tree { IfOk result (λ r. (placed_of r, counts.new) ≡ chained_on alphabet at (map (operand alphabet (plains alphabet earlier.now)) links.now) (placed_of x) counts.old) }
-    ensures stamp { OnOk result (counts.new.stamp ≤ counts.old.stamp + 3 * operand_nodes (map (operand alphabet (plains alphabet earlier.now)) links.now)) }
+    requires room { HasRoom counts.old (operand_nodes (map (operand_followed alphabet earlier.now) links.now)) }
+    ensures tree { IfOk result (λ r. (placed_of r, counts.new) ≡ chained_on alphabet at (map (operand_followed alphabet earlier.now) links.now) (placed_of x) counts.old) }
+    ensures stamp { OnOk result (counts.new.stamp ≤ counts.old.stamp + 3 * operand_nodes (map (operand_followed alphabet earlier.now) links.now)) }
     ensures few { OnOk result (AreFew counts.new) }
 {
     let mut x = x;
@@ -200,9 +199,9 @@ fn walk_chain(
     at: Place,
     counts: &mut Counts,
 ) -> Result<Placed, AllocError>
-    requires room { HasRoom counts.old (nodes (plain alphabet (plains alphabet earlier.now) first.now) + operand_nodes (map (operand alphabet (plains alphabet earlier.now)) links.now)) }
-    ensures tree { IfOk result (λ r. (placed_of r, counts.new) ≡ chained_behind alphabet at (plain alphabet (plains alphabet earlier.now) first.now) (map (operand alphabet (plains alphabet earlier.now)) links.now) counts.old) }
-    ensures stamp { OnOk result (counts.new.stamp ≤ counts.old.stamp + 3 * (nodes (plain alphabet (plains alphabet earlier.now) first.now) + operand_nodes (map (operand alphabet (plains alphabet earlier.now)) links.now))) }
+    requires room { HasRoom counts.old (nodes (followed alphabet earlier.now first.now) + operand_nodes (map (operand_followed alphabet earlier.now) links.now)) }
+    ensures tree { IfOk result (λ r. (placed_of r, counts.new) ≡ chained_behind alphabet at (followed alphabet earlier.now first.now) (map (operand_followed alphabet earlier.now) links.now) counts.old) }
+    ensures stamp { OnOk result (counts.new.stamp ≤ counts.old.stamp + 3 * (nodes (followed alphabet earlier.now first.now) + operand_nodes (map (operand_followed alphabet earlier.now) links.now))) }
     ensures few { OnOk result (AreFew counts.new) }
 {
     let x = walk(alloc, alphabet, earlier, first, counts)?;
@@ -221,9 +220,9 @@ fn walk_repeated(
     at: Place,
     counts: &mut Counts,
 ) -> Result<Placed, AllocError>
-    requires room { HasRoom counts.old (nodes (all_repeated rs.now (plain alphabet (plains alphabet earlier.now) e.now) at)) }
-    ensures tree { IfOk result (λ r. (placed_of r, counts.new) ≡ w.walk (all_repeated rs.now (plain alphabet (plains alphabet earlier.now) e.now) at) counts.old) }
-    ensures stamp { OnOk result (counts.new.stamp ≤ counts.old.stamp + 3 * nodes (all_repeated rs.now (plain alphabet (plains alphabet earlier.now) e.now) at)) }
+    requires room { HasRoom counts.old (nodes (all_repeated rs.now (followed alphabet earlier.now e.now) at)) }
+    ensures tree { IfOk result (λ r. (placed_of r, counts.new) ≡ w.walk (all_repeated rs.now (followed alphabet earlier.now e.now) at) counts.old) }
+    ensures stamp { OnOk result (counts.new.stamp ≤ counts.old.stamp + 3 * nodes (all_repeated rs.now (followed alphabet earlier.now e.now) at)) }
     ensures few { OnOk result (AreFew counts.new) }
 {
     if are_copies(rs) {
@@ -235,28 +234,27 @@ fn walk_repeated(
     }
 }
 
-// An operand with its negations. What each takes its operand from is walked before the operand.
+// An operand with its negations. What each takes its operand from is walked before the operand, and stands at the sign.
 #[cycle(walk)]
 fn walk_negated(
     alloc: Global,
     alphabet: Alphabet,
     earlier: &[Definition],
-    ns: &[Negation],
+    ns: &[NegationSign],
     e: &Expression,
-    at: Place,
     counts: &mut Counts,
 ) -> Result<Placed, AllocError>
-    requires room { HasRoom counts.old (nodes (all_negated alphabet ns.now (plain alphabet (plains alphabet earlier.now) e.now) at)) }
-    ensures tree { IfOk result (λ r. (placed_of r, counts.new) ≡ w.walk (all_negated alphabet ns.now (plain alphabet (plains alphabet earlier.now) e.now) at) counts.old) }
-    ensures stamp { OnOk result (counts.new.stamp ≤ counts.old.stamp + 3 * nodes (all_negated alphabet ns.now (plain alphabet (plains alphabet earlier.now) e.now) at)) }
+    requires room { HasRoom counts.old (nodes (all_negated alphabet ns.now (followed alphabet earlier.now e.now))) }
+    ensures tree { IfOk result (λ r. (placed_of r, counts.new) ≡ w.walk (all_negated alphabet ns.now (followed alphabet earlier.now e.now)) counts.old) }
+    ensures stamp { OnOk result (counts.new.stamp ≤ counts.old.stamp + 3 * nodes (all_negated alphabet ns.now (followed alphabet earlier.now e.now))) }
     ensures few { OnOk result (AreFew counts.new) }
 {
     match ns {
         [] => walk(alloc, alphabet, earlier, e, counts),
         [n, rest @ ..] => {
-            let x = whole(alloc, alphabet, *n, at, counts)?;
-            let y = walk_negated(alloc, alphabet, earlier, rest, e, at, counts)?;
-            pair(alloc, Pairing::Less, x, y, at)
+            let x = whole(alloc, alphabet, n.negation, n.place, counts)?;
+            let y = walk_negated(alloc, alphabet, earlier, rest, e, counts)?;
+            pair(alloc, Pairing::Less, x, y, n.place)
         }
     }
 }
@@ -272,9 +270,9 @@ fn walk_embedded(
     at: Place,
     counts: &mut Counts,
 ) -> Result<Placed, AllocError>
-    requires room { HasRoom counts.old (nodes (p.Series (plain alphabet (plains alphabet earlier.now) e.now) puts.now at)) }
-    ensures tree { IfOk result (λ r. (placed_of r, counts.new) ≡ w.walk (p.Series (plain alphabet (plains alphabet earlier.now) e.now) puts.now at) counts.old) }
-    ensures stamp { OnOk result (counts.new.stamp ≤ counts.old.stamp + 3 * nodes (p.Series (plain alphabet (plains alphabet earlier.now) e.now) puts.now at)) }
+    requires room { HasRoom counts.old (nodes (p.Series (followed alphabet earlier.now e.now) puts.now at)) }
+    ensures tree { IfOk result (λ r. (placed_of r, counts.new) ≡ w.walk (p.Series (followed alphabet earlier.now e.now) puts.now at) counts.old) }
+    ensures stamp { OnOk result (counts.new.stamp ≤ counts.old.stamp + 3 * nodes (p.Series (followed alphabet earlier.now e.now) puts.now at)) }
     ensures few { OnOk result (AreFew counts.new) }
 {
     let layers = first_layers(alloc, puts, counts)?;

@@ -61,5 +61,5 @@ size_of-returns-in-Repeated t c = record {
 pub size_of-returns-in-Negated : goal.size_of-returns-in-Negated
 size_of-returns-in-Negated t c = record {
   size = c.all_negated_of.ensures.size ∙ negated_whole c.args.alphabet (plains c.args.alphabet c.args.earlier.now) c.args.e.now c.get-in-Negated.result.now c.in-Negated.a c.as_slice-in-Negated.result.now c.in-Negated.ns
-      c.in-Negated.field-2 c.size_of-in-Negated.result c.in-Negated.is c.get-in-Negated.ensures c.as_slice-in-Negated.ensures c.size_of-in-Negated.ensures.size;
+      c.size_of-in-Negated.result c.in-Negated.is c.get-in-Negated.ensures c.as_slice-in-Negated.ensures c.size_of-in-Negated.ensures.size;
 }
