@@ -8,3 +8,4 @@ pub mod Rules
 pub mod Valid
 pub mod TableMachine
 pub mod Section
+pub mod Shared

@@ -47,10 +47,10 @@ pub record LengthSays (a : Arrays) (s : ℕ) (n : ℤ) : Type 0 where
   pub closed : HasKind a s 4 4 → n ≡ pos 0
 
 -- a use is of a cell that there is
-pub record UseSays (a : Arrays) (use : ℕ) (cell : ℤ) : Type 0 where
-  pub closing : IsClosing (uses_end a) use → cell ≡ pos 0
+pub record UseSays (a : Arrays) (place : ℕ) (cell : ℤ) : Type 0 where
+  pub closing : IsClosing (uses_end a) place → cell ≡ pos 0
   pub positive : pos 0 ≤ℤ cell
-  pub known : (IsClosing (uses_end a) use → ⊥) → cell <ℤ pos (shared_cells a)
+  pub known : (IsClosing (uses_end a) place → ⊥) → cell <ℤ pos (shared_cells a)
 
 -- the asked conditions of a cell exist
 pub record AskSays (a : Arrays) (c : ℕ) (asks : ℤ) : Type 0 where

@@ -66,15 +66,15 @@ pub record IsIn (width : ℕ → Option ℤ) (i place : ℕ) : Type 0 where
 
 -- the number of the cell that a use uses: its own, or in version 2 what `cell_uses` has for it
 abbrev pub used_cell : Arrays → ℕ → Option ℤ
-used_cell a use = if shares a then slice_get a.cell_uses use else Some (pos use)
+used_cell a place = if shares a then slice_get a.cell_uses place else Some (pos place)
 
 -- the entry is one of a cell that the state uses
 pub record IsEntryOf (a : Arrays) (s e : ℕ) : Type 0 where
-  pub use : ℕ
+  pub place : ℕ
   pub cell : ℕ
   pub state : s < states a
-  pub of_state : IsIn (uses_of a) s use
-  pub of_use : used_cell a use ≡ Some (pos cell)
+  pub of_state : IsIn (uses_of a) s place
+  pub of_use : used_cell a place ≡ Some (pos cell)
   pub of_cell : IsIn (entries_of a) cell e
 
 -- how many elements an array has

@@ -34,7 +34,7 @@ cell_within a s key =
 
 -- the cell of a use
 abbrev pub cell_used : Arrays → ℕ → ℕ
-cell_used a use = if shares a then number_at a.cell_uses use else use
+cell_used a place = if shares a then number_at a.cell_uses place else place
 
 -- the cell of a key in a state, if it has one
 abbrev pub cell_of : Arrays → ℕ → ℤ → Option ℕ
