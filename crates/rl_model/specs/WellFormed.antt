@@ -1,14 +1,15 @@
 -- When the Spec of a machine is well-formed. The limits are this profile's.
-use Rattle.std.specs.Prelude.{◌≡◌, ◌≢◌, ℕ, ◌<◌, ◌≤◌, ◌&&◌, ◌↔◌, IsTrue, IsSome, IfSome, List, [], ◌++◌, map, length, filter, flat_map, All}
+use Rattle.std.specs.Prelude.{◌≡◌, ◌≢◌, ℕ, ◌<◌, ◌≤◌, ◌&&◌, ◌↔◌, IsTrue, IsSome, IfSome, List, [], ◌∷◌, ◌++◌, map, length, filter, flat_map, All, if◌then◌else◌}
 use Rattle.rl_types.specs.declared.alphabet.Alphabet.{Alphabet}
 use Rattle.rl_types.specs.declared.numbers.Place.{Place}
 use Rattle.rl_types.specs.Alphabet.{has_key}
 use Rattle.rl_types.specs.KeyRange.{Range}
 use Rattle.rl_run.specs.declared.statements.Statement.{Statement}
+use Rattle.rl_run.specs.declared.statements.StatementKind.{StatementKind}
 use Rattle.rl_automata.specs.Nodes.{Node}
 use Rattle.rl_automata.specs.Refused.{AreDifferent, sets_in, conditions_in}
 use Rattle.rl_arrays.specs.Names.{is_name, is_action_name}
-use Rattle.rl_arrays.specs.Statements.{names_entry, up_to_end}
+use Rattle.rl_arrays.specs.Statements.{names_entry, ends_list}
 use Rattle.rl_model.specs.declared.spec.Pattern as rust
 use Rattle.rl_model.specs.declared.spec.Root as rust_root
 use Rattle.rl_model.specs.declared.spec.Root.TheVariants as R
@@ -46,7 +47,12 @@ HasNoStatement actions a = IfSome (numbered actions a) (λ x. x.statements ≡ [
 abbrev pub IsInAlphabet : Alphabet → Range → Type 0
 IsInAlphabet alphabet r = IsTrue (has_key alphabet r.lo && has_key alphabet r.hi)
 
--- the statements at the outer level, up to the first transfer or break
+-- those up to the first transfer or break, with it
+abbrev pub up_to_end : List StatementKind → List StatementKind
+up_to_end [] = []
+up_to_end (k ∷ ks) = if ends_list k then k ∷ [] else k ∷ up_to_end ks
+
+-- how many statements at the outer level there are up to the first transfer or break
 abbrev pub outer_statements : List Statement → ℕ
 outer_statements statements = length (up_to_end (map (λ (s : Statement). s.kind) (filter (λ (s : Statement). s.outer) statements)))
 
