@@ -32,7 +32,8 @@ module _ {S T U : Type 0} (m : Machine S) (w : Machine T) (v : Machine U) (ρ σ
 
   pub twin_after : IsTwin m v both RQ
   twin_after = record {
-    key_of = λ byte. B.key_of byte ∙ A.key_of byte;
+    width = B.width ∙ A.width;
+    key_of = λ character. B.key_of character ∙ A.key_of character;
     asked = λ q p key r. B.asked r.0 p key r.2 ∙ A.asked q r.0 key r.1;
     find = λ q p key hold r. gos (m.find q key hold) (w.find r.0 key hold) (v.find p key hold) (A.find q r.0 key hold r.1) (B.find r.0 p key hold r.2);
     from = λ q p r. lists (m.from q) (w.from r.0) (v.from p) (A.from q r.0 r.1) (B.from r.0 p r.2);

@@ -1,5 +1,5 @@
 -- Runs on inputs that come in pieces.
-use Rattle.std.proofs.Common.{◌≡◌, ℕ, zero, suc, ◌+◌, ◌<◌, ◌≤◌, ◌^◌, Bool, true, false, cond, List, [], ◌∷◌, map, length, Option, Some, None, refl, sym, ap, subst, arith, nat_lt, ◌-◌, take, drop, get_or, zero-add}
+use Rattle.std.proofs.Common.{◌≡◌, ℕ, zero, suc, ◌+◌, ◌<◌, ◌≤◌, ◌^◌, Bool, true, false, cond, List, [], ◌∷◌, map, length, Option, Some, None, refl, sym, ap, subst, arith, nat_lt, ◌-◌, ◌*◌, take, drop, get_or, zero-add}
 use Rattle.std.specs.Prelude.{slice_get}
 use Rattle.std.proofs.lemmas.Option.{slice_get_within, slice_get-get_or}
 use Rattle.std.proofs.lemmas.Bool.Decides.{nat_tests}
@@ -10,12 +10,14 @@ use Rattle.rl_run.specs.declared.sessions.Flow.TheVariants.{Goes, Jumps, Breaks,
 use Rattle.rl_run.specs.declared.calls.Outcome.{Outcome}
 use Rattle.rl_run.specs.declared.calls.Outcome.TheVariants.{Wants, Broke, Stopped}
 use Rattle.rl_run.specs.declared.calls.Stop.{Stop as StopCause}
-use Rattle.rl_run.specs.declared.calls.Stop.TheVariants.{PastEnd}
+use Rattle.rl_run.specs.declared.calls.Stop.TheVariants.{PastEnd, HalfKey}
 use Rattle.rl_run.specs.declared.sessions.Settings.{Settings}
 use Rattle.rl_run.specs.Machine.{Machine, Session, keep}
 use Rattle.rl_run.specs.Picks.{Came, came}
 use Rattle.rl_run.specs.Turn.{turn}
-use Rattle.rl_run.specs.Run.{Input, Rest, rest, letter, after, last_delivery, at_kept, ending, end_of, at_letter, turns}
+use Rattle.rl_types.specs.Alphabet.{characters, has_rest}
+use Rattle.rl_types.proofs.Characters.{drop-characters, characters_of_take}
+use Rattle.rl_run.specs.Run.{Input, input_at, Rest, rest, letter, after, last_delivery, at_kept, ending, end_of, at_end, at_letter, turns}
 use Rattle.rl_run.specs.Play.{Play, done, ask, bind, Plays, Log, Reached, ended, stands, run}
 use Rattle.rl_run.specs.Chain.{Chain, IsLogOf, Played, Extends, IsOpen, run_on}
 use Rattle.rl_run.specs.Fine.{IsKinded, IsFine, GoesOn, UnlessStops, weight}
@@ -122,7 +124,7 @@ module _ {S H : Type 0} (step : H → Call → Answer → H → Type 0) (m : Mac
       flow_on n k byte s t h mid last o r is_open second ih (more s.next byte e) a.1.flow a.1.session a.0 a.2 a.3
   letter_on n k s t h mid last o r is_open second ih None e p = waits short.is_closed not_closed p
     where
-      waits : (d : Bool) → d ≡ false → Plays step h (cond d (ending b m settings (end_of short) s (λ v. turns b m settings short n v)) (done (rest (Some Wants) s))) mid (rest o t) →
+      waits : (d : Bool) → d ≡ false → Plays step h (cond d (at_end b m settings short (λ v. turns b m settings short n v) s) (done (rest (Some Wants) s))) mid (rest o t) →
           (j : ℕ) × Plays step h (turns false m settings long j s) last r
       waits true x p = absurd (no x)
         where
@@ -146,27 +148,27 @@ module _ {S H : Type 0} (step : H → Call → Answer → H → Type 0) (m : Mac
 pub seen_before : (input : Input) (p byte : ℕ) → letter input p ≡ Some byte → p < end_of input
 seen_before input p byte e = go (nat_lt p input.base) refl e
   where
-    go : (b : Bool) → nat_lt p input.base ≡ b → cond b None (slice_get input.bytes (p - input.base)) ≡ Some byte → p < end_of input
+    go : (b : Bool) → nat_lt p input.base ≡ b → cond b None (slice_get input.characters (p - input.base)) ≡ Some byte → p < end_of input
     go true x e = let h : p < input.base = grind (arith, nat_tests) in omega arith
-    go false x e = let h = slice_get_within input.bytes (p - input.base) byte e in omega arith
+    go false x e = let h = slice_get_within input.characters (p - input.base) byte e in omega arith
 
 -- a position that is not seen lies past the end, or before the base
 pub unseen_past : (input : Input) (p : ℕ) → letter input p ≡ None → input.base ≤ p → end_of input ≤ p
 unseen_past input p e low = go (nat_lt p input.base) refl e
   where
-    go : (b : Bool) → nat_lt p input.base ≡ b → cond b None (slice_get input.bytes (p - input.base)) ≡ None → end_of input ≤ p
+    go : (b : Bool) → nat_lt p input.base ≡ b → cond b None (slice_get input.characters (p - input.base)) ≡ None → end_of input ≤ p
     go true x e = let h : p < input.base = grind (arith, nat_tests) in absurd (omega arith)
-    go false x e = past (nat_lt (p - input.base) (length input.bytes)) refl
+    go false x e = past (nat_lt (p - input.base) (length input.characters)) refl
       where
-        past : (b : Bool) → nat_lt (p - input.base) (length input.bytes) ≡ b → end_of input ≤ p
+        past : (b : Bool) → nat_lt (p - input.base) (length input.characters) ≡ b → end_of input ≤ p
         past true y =
-            let within : p - input.base < length input.bytes = grind (arith, nat_tests) in
-            let seen = slice_get-get_or input.bytes (p - input.base) 0 within in
+            let within : p - input.base < length input.characters = grind (arith, nat_tests) in
+            let seen = slice_get-get_or input.characters (p - input.base) 0 within in
             absurd (no seen)
           where
-            no : slice_get input.bytes (p - input.base) ≡ Some (get_or input.bytes (p - input.base) 0) → ⊥
+            no : slice_get input.characters (p - input.base) ≡ Some (get_or input.characters (p - input.base) 0) → ⊥
             no s = cc
-        past false y = let h : length input.bytes ≤ p - input.base = grind (arith, nat_tests) in omega arith
+        past false y = let h : length input.characters ≤ p - input.base = grind (arith, nat_tests) in omega arith
 
 module _ {S H : Type 0} (step : H → Call → Answer → H → Type 0) (m : Machine S) (kinded : IsKinded m) (settings : Settings)
     (b : Bool) (input : Input) (limit : end_of input < 2 ^ 63) where
@@ -227,6 +229,18 @@ module _ {S H : Type 0} (step : H → Call → Answer → H → Type 0) (m : Mac
           let past : end_of input ≤ s.next = unseen_past input s.next e (omega arith) in
           enough_kept n k s t h last o fine low w ih (omega arith) s.kept refl q
 
+  enough_end : (n k : ℕ) (s t : Session S) (h last : H) (o : Outcome) → IsFine m s → input.base ≤ keep settings s → weight s < suc k → Ahead n k t last o →
+      letter input s.next ≡ None →
+      Plays step h (at_end b m settings input (λ v. turns b m settings input n v) s) last (rest (Some o) t) →
+      Plays step h (at_end b m settings input (λ v. turns b m settings input k v) s) last (rest (Some o) t)
+  unfolding at_end
+  enough_end n k s t h last o fine low w ih e p = go input.has_rest p
+    where
+      go : (d : Bool) → Plays step h (cond d (done (rest (Some (Stopped HalfKey)) s)) (ending b m settings (end_of input) s (λ v. turns b m settings input n v))) last (rest (Some o) t) →
+          Plays step h (cond d (done (rest (Some (Stopped HalfKey)) s)) (ending b m settings (end_of input) s (λ v. turns b m settings input k v))) last (rest (Some o) t)
+      go true p = p
+      go false p = enough_ending n k s t h last o fine low w ih e p
+
   enough_letter : (n k : ℕ) (s t : Session S) (h last : H) (o : Outcome) → IsFine m s → input.base ≤ keep settings s → weight s < suc k → Ahead n k t last o →
       (l : Option ℕ) → letter input s.next ≡ l →
       Plays step h (at_letter b m settings input (λ v. turns b m settings input n v) s l) last (rest (Some o) t) →
@@ -237,9 +251,9 @@ module _ {S H : Type 0} (step : H → Call → Answer → H → Type 0) (m : Mac
       (turn_law m settings s byte kinded fine (omega (arith, seen_before input s.next byte e))) p
   enough_letter n k s t h last o fine low w ih None e p = go input.is_closed p
     where
-      go : (d : Bool) → Plays step h (cond d (ending b m settings (end_of input) s (λ v. turns b m settings input n v)) (done (rest (Some Wants) s))) last (rest (Some o) t) →
-          Plays step h (cond d (ending b m settings (end_of input) s (λ v. turns b m settings input k v)) (done (rest (Some Wants) s))) last (rest (Some o) t)
-      go true p = enough_ending n k s t h last o fine low w ih e p
+      go : (d : Bool) → Plays step h (cond d (at_end b m settings input (λ v. turns b m settings input n v) s) (done (rest (Some Wants) s))) last (rest (Some o) t) →
+          Plays step h (cond d (at_end b m settings input (λ v. turns b m settings input k v) s) (done (rest (Some Wants) s))) last (rest (Some o) t)
+      go true p = enough_end n k s t h last o fine low w ih e p
       go false p = p
 
   -- so many turns as the weight are enough
@@ -299,7 +313,7 @@ module _ {S H : Type 0} (step : H → Call → Answer → H → Type 0) (m : Mac
       stays_on n byte s t h last cause ih (more s.next byte e) a.1.flow a.1.session a.0 a.2 a.3
   stays_letter n s t h last cause ih None e p = waits short.is_closed not_closed p
     where
-      waits : (d : Bool) → d ≡ false → Plays step h (cond d (ending b m settings (end_of short) s (λ v. turns b m settings short n v)) (done (rest (Some Wants) s))) last (rest (Some (Stopped cause)) t) →
+      waits : (d : Bool) → d ≡ false → Plays step h (cond d (at_end b m settings short (λ v. turns b m settings short n v) s) (done (rest (Some Wants) s))) last (rest (Some (Stopped cause)) t) →
           (j : ℕ) × Plays step h (turns false m settings long j s) last (rest (Some (Stopped cause)) t)
       waits true x p = absurd (no x)
         where
@@ -333,20 +347,11 @@ slice_drop (x ∷ xs) (suc base) i b e =
     let here : suc base + i ≡ suc (base + i) = omega arith in
     rw here (slice_drop xs base i b e)
 
-slice_take : (xs : List ℕ) (n i b : ℕ) → slice_get (take n xs) i ≡ Some b → slice_get xs i ≡ Some b
-slice_take [] zero i b e = e
-slice_take [] (suc n) i b e = e
-slice_take (x ∷ xs) zero i b e = absurd (no i e)
+-- a window over the bytes behind the first `base` characters
+pub window_extends : (w : ℕ) (xs : List ℕ) (base : ℕ) (c d : Bool) → 0 < w → Extends (input_at w base (drop (w * base) xs) c) (input_at w 0 xs d)
+window_extends w xs base c d some p b e = go (nat_lt p base) refl e
   where
-    no : (i : ℕ) → slice_get [] i ≡ Some b → ⊥
-    no i e = cc
-slice_take (x ∷ xs) (suc n) zero b e = e
-slice_take (x ∷ xs) (suc n) (suc i) b e = slice_take xs n i b e
-
-pub window_extends : (xs : List ℕ) (base : ℕ) (c d : Bool) → Extends (record { base = base; bytes = drop base xs; is_closed = c }) (record { base = 0; bytes = xs; is_closed = d })
-window_extends xs base c d p b e = go (nat_lt p base) refl e
-  where
-    go : (t : Bool) → nat_lt p base ≡ t → cond t None (slice_get (drop base xs) (p - base)) ≡ Some b → letter (record { base = 0; bytes = xs; is_closed = d }) p ≡ Some b
+    go : (t : Bool) → nat_lt p base ≡ t → cond t None (slice_get (characters w (drop (w * base) xs)) (p - base)) ≡ Some b → letter (input_at w 0 xs d) p ≡ Some b
     go true x e = absurd (no e)
       where
         no : None ≡ Some b → ⊥
@@ -355,32 +360,34 @@ window_extends xs base c d p b e = go (nat_lt p base) refl e
         let within : base ≤ p = grind (arith, nat_tests) in
         let zero_low : nat_lt p 0 ≡ false = grind (arith, nat_tests) in
         let whole : p - 0 ≡ base + (p - base) = omega arith in
-        rw (zero_low, whole) (slice_drop xs base (p - base) b e)
+        let here = subst (λ cs. slice_get cs (p - base) ≡ Some b) (sym (drop-characters w base xs some)) e in
+        rw (zero_low, whole) (slice_drop (characters w xs) base (p - base) b here)
 
-pub front_extends : (xs : List ℕ) (n : ℕ) (c d : Bool) → Extends (record { base = 0; bytes = take n xs; is_closed = c }) (record { base = 0; bytes = xs; is_closed = d })
-front_extends xs n c d p b e =
+-- the first n bytes, which may end within a character
+pub front_extends : (w : ℕ) (xs : List ℕ) (n : ℕ) (c d : Bool) → Extends (input_at w 0 (take n xs) c) (input_at w 0 xs d)
+front_extends w xs n c d p b e =
     let zero_low : nat_lt p 0 ≡ false = grind (arith, nat_tests) in
     let front = rw zero_low at e in
-    rw zero_low (slice_take xs n (p - 0) b front)
+    rw zero_low (characters_of_take w n xs (p - 0) b front)
 
-abbrev open_at : ℕ → List ℕ → Input
-open_at base bytes = record { base = base; bytes = bytes; is_closed = false }
+abbrev open_at : ℕ → ℕ → List ℕ → Input
+open_at w base bytes = input_at w base bytes false
 
 -- two feeds, the second one over a window that begins anywhere, are one run on the whole
-pub two_feeds : {S H : Type 0} (step : H → Call → Answer → H → Type 0) (m : Machine S) (settings : Settings) (xs : List ℕ) (cut base : ℕ) (s t u : Session S) (h mid last : H) →
-    IsKinded m → IsFine m s → length xs < 2 ^ 63 →
-    Played step h (run_on true m settings (open_at 0 (take cut xs)) s) mid (rest (Some Wants) t) →
-    Played step mid (run_on true m settings (open_at base (drop base xs)) t) last (rest (Some Wants) u) →
-    length xs ≤ u.next →
-    Played step h (run_on false m settings (open_at 0 xs) s) last (rest (Some Wants) u)
+pub two_feeds : {S H : Type 0} (step : H → Call → Answer → H → Type 0) (m : Machine S) (settings : Settings) (w : ℕ) (xs : List ℕ) (cut base : ℕ) (s t u : Session S) (h mid last : H) →
+    0 < w → IsKinded m → IsFine m s → length (characters w xs) < 2 ^ 63 →
+    Played step h (run_on true m settings (open_at w 0 (take cut xs)) s) mid (rest (Some Wants) t) →
+    Played step mid (run_on true m settings (open_at w base (drop (w * base) xs)) t) last (rest (Some Wants) u) →
+    length (characters w xs) ≤ u.next →
+    Played step h (run_on false m settings (open_at w 0 xs) s) last (rest (Some Wants) u)
 unfolding run_on
-two_feeds step m settings xs cut base s t u h mid last kinded fine limit first second past =
-    let p = plays step h mid (turns true m settings (open_at 0 (take cut xs)) (suc (weight s)) s) first.log (rest (Some Wants) t) first.chain first.calls in
-    let q = plays step mid last (turns true m settings (open_at base (drop base xs)) (suc (weight t)) t) second.log (rest (Some Wants) u) second.chain second.calls in
-    let stands = plays_wants step m settings (open_at 0 xs) false 0 u last (letter_none 0 xs false u.next (omega arith)) refl in
-    let r = goes_on step m settings true (open_at base (drop base xs)) (open_at 0 xs) refl (window_extends xs base false false)
+two_feeds step m settings w xs cut base s t u h mid last some kinded fine limit first second past =
+    let p = plays step h mid (turns true m settings (open_at w 0 (take cut xs)) (suc (weight s)) s) first.log (rest (Some Wants) t) first.chain first.calls in
+    let q = plays step mid last (turns true m settings (open_at w base (drop (w * base) xs)) (suc (weight t)) t) second.log (rest (Some Wants) u) second.chain second.calls in
+    let stands = plays_wants step m settings (open_at w 0 xs) false 0 u last (letter_none 0 (characters w xs) false (has_rest w xs) u.next (omega arith)) refl in
+    let r = goes_on step m settings true (open_at w base (drop (w * base) xs)) (open_at w 0 xs) refl (window_extends w xs base false false some)
     (suc (weight t)) 1 t u mid last last (Some Wants) (rest (Some Wants) u) tt q stands in
-    let w = goes_on step m settings true (open_at 0 (take cut xs)) (open_at 0 xs) refl (front_extends xs cut false false)
+    let all = goes_on step m settings true (open_at w 0 (take cut xs)) (open_at w 0 xs) refl (front_extends w xs cut false false)
     (suc (weight s)) r.0 s t h mid last (Some Wants) (rest (Some Wants) u) tt p r.1 in
-    played step h last (turns false m settings (open_at 0 xs) (suc (weight s)) s) (rest (Some Wants) u)
-    (enough step m kinded settings false (open_at 0 xs) (omega arith) w.0 (suc (weight s)) s u h last Wants fine (omega arith) (omega arith) w.1)
+    played step h last (turns false m settings (open_at w 0 xs) (suc (weight s)) s) (rest (Some Wants) u)
+    (enough step m kinded settings false (open_at w 0 xs) (omega arith) all.0 (suc (weight s)) s u h last Wants fine (omega arith) (omega arith) all.1)

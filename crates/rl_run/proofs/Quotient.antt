@@ -34,7 +34,8 @@ module _ {S : Type 0} (m : Machine S) (class : S → ℕ) (In : S → Type 0) (s
 
   pub quotient_twin : IsTwin m small (λ a. a) At
   quotient_twin = record {
-    key_of = λ byte. refl;
+    width = refl;
+    key_of = λ character. refl;
     asked = λ q p key r. on_class (λ q. m.asked q key) (λ q i. (stable.alike q i).asked key) q p r;
     find = finds;
     from = list_on m.from (λ q i. (stable.alike q i).from);

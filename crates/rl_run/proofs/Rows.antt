@@ -3,6 +3,7 @@
 use Rattle.std.proofs.Common.{◌≡◌, ℕ, Bool, true, false, cond, pos, List, [], ◌∷◌, ◌++◌, map, Option, Some, None, refl, nat_eq, ◌&&◌, int_lt, not}
 use Rattle.std.specs.List.{flat_map, range_with_len}
 use Rattle.rl_types.specs.declared.numbers.Key.{Key}
+use Rattle.rl_types.specs.Alphabet.{characters}
 use Rattle.rl_types.specs.declared.numbers.EntryId.{EntryId}
 use Rattle.rl_run.specs.declared.calls.Call.{Call}
 use Rattle.rl_run.specs.declared.calls.Pick.{Pick}
@@ -10,14 +11,14 @@ use Rattle.rl_run.specs.declared.calls.Answer.{Answer}
 use Rattle.rl_run.specs.declared.calls.Answer.TheVariants.{Yes, Picks}
 use Rattle.rl_run.specs.declared.calls.CallKind.TheVariants.{Do, To}
 use Rattle.rl_run.specs.declared.calls.Outcome.TheVariants.{Ended, Stopped}
-use Rattle.rl_run.specs.declared.calls.Stop.TheVariants.{Back, StackEmpty}
+use Rattle.rl_run.specs.declared.calls.Stop.TheVariants.{Back, StackEmpty, HalfKey}
 use Rattle.rl_run.specs.declared.sessions.Settings.{Settings}
 use Rattle.rl_run.specs.declared.statements.Statement.{Statement}
 use Rattle.rl_run.specs.declared.statements.StatementKind.{StatementKind}
 use Rattle.rl_run.specs.declared.statements.StatementKind.TheVariants.{Hold, Goto, Ret}
 use Rattle.rl_run.specs.declared.statements.GoalBase.TheVariants.{Unread}
 use Rattle.rl_run.specs.Machine.{Go, Machine, Session, fresh}
-use Rattle.rl_run.specs.Run.{Input, rest, turns, at_letter, after, ending, at_kept, last_list, last_delivery}
+use Rattle.rl_run.specs.Run.{Input, input_at, rest, turns, at_letter, after, at_end, ending, at_kept, last_list, last_delivery}
 use Rattle.rl_run.specs.Turn.{if_goes, deliver, marked, stepped, failed, missed, chosen, if_heard, sought, finished, body, turn}
 use Rattle.rl_run.specs.Play.{ended, run}
 use Rattle.rl_run.specs.Chain.{run_on}
@@ -46,7 +47,8 @@ statement_of action n =
 
 abbrev ab : Machine ℕ
 ab = record {
-  key_of = λ byte. record { 0 = pos byte };
+  width = 1;
+  key_of = λ n. record { 0 = pos n };
   asked = λ state key. 0;
   find = λ state key hold. find_ab state key;
   from = λ state. [];
@@ -76,7 +78,7 @@ abbrev picks : Pick → Option Pick → Answer
 picks first second = Picks (Some first ∷ second ∷ None ∷ None ∷ [])
 
 abbrev text : List ℕ → Input
-text bytes = record { base = 0; bytes = bytes; is_closed = true }
+text bytes = input_at 1 0 bytes true
 
 abbrev at_state : ℕ → ℕ → ℕ → ℕ → Session ℕ
 at_state state next furthest backs = record (fresh state) { next = next; furthest = furthest; backs = backs }
@@ -84,26 +86,32 @@ at_state state next furthest backs = record (fresh state) { next = next; furthes
 -- ab: the action is called behind each character
 on_each_character : run (run_on false ab settings (text (97 ∷ 98 ∷ [])) (fresh 1)) (Yes ∷ Yes ∷ []) ≡
     record { calls = do_x 0 1 97 ∷ do_x 1 2 98 ∷ []; reached = ended (rest (Some Ended) (at_state 4 2 2 0)) }
-unfolding settings run_on weight tail_weight turns at_letter after ending at_kept last_list last_delivery if_goes deliver marked stepped failed missed chosen if_heard sought finished body turn
+unfolding settings characters run_on weight tail_weight turns at_letter after at_end ending at_kept last_list last_delivery if_goes deliver marked stepped failed missed chosen if_heard sought finished body turn
 on_each_character = refl
 
 -- a jump to the second entry: its to-state action is called in the same turn
 to_after_a_jump : run (run_on false ab settings (text (97 ∷ [])) (fresh 1)) (picks (take 1) None ∷ Yes ∷ []) ≡
     record { calls = do_x 0 1 97 ∷ record (do_x 0 1 97) { kind = To; action = record { 0 = 2 } } ∷ []; reached = ended (rest (Some Ended) (at_state 3 1 1 0)) }
-unfolding settings run_on weight tail_weight turns at_letter after ending at_kept last_list last_delivery if_goes deliver marked stepped failed missed chosen if_heard sought finished body turn
+unfolding settings characters run_on weight tail_weight turns at_letter after at_end ending at_kept last_list last_delivery if_goes deliver marked stepped failed missed chosen if_heard sought finished body turn
 to_after_a_jump = refl
 
 -- a return with nothing on the stack
 nothing_to_return_to : run (run_on false ab settings (text (97 ∷ [])) (fresh 1)) (picks (take 2) None ∷ []) ≡
     record { calls = do_x 0 1 97 ∷ []; reached = ended (rest (Some (Stopped (StackEmpty (take 2)))) (at_state 2 1 0 0)) }
-unfolding settings run_on weight tail_weight turns at_letter after ending at_kept last_list last_delivery if_goes deliver marked stepped failed missed chosen if_heard sought finished body turn
+unfolding settings characters run_on weight tail_weight turns at_letter after at_end ending at_kept last_list last_delivery if_goes deliver marked stepped failed missed chosen if_heard sought finished body turn
 nothing_to_return_to = refl
 
 -- two holds at the first character: the second one would go below the input's start
 held_twice : run (run_on false ab settings (text (97 ∷ [])) (fresh 1)) (picks (take 3) (Some (take 3)) ∷ []) ≡
     record { calls = do_x 0 1 97 ∷ []; reached = ended (rest (Some (Stopped (Back (take 3)))) (at_state 2 0 0 1)) }
-unfolding settings run_on weight tail_weight turns at_letter after ending at_kept last_list last_delivery if_goes deliver marked stepped failed missed chosen if_heard sought finished body turn
+unfolding settings characters run_on weight tail_weight turns at_letter after at_end ending at_kept last_list last_delivery if_goes deliver marked stepped failed missed chosen if_heard sought finished body turn
 held_twice = refl
+
+-- characters of two bytes: the third byte fills none
+half_a_character : run (run_on false (record ab { width = 2 }) settings (input_at 2 0 (97 ∷ 0 ∷ 98 ∷ []) true) (fresh 1)) (Yes ∷ []) ≡
+    record { calls = do_x 0 1 97 ∷ []; reached = ended (rest (Some (Stopped HalfKey)) (at_state 2 1 1 0)) }
+unfolding settings characters run_on weight tail_weight turns at_letter after at_end ending at_kept last_list last_delivery if_goes deliver marked stepped failed missed chosen if_heard sought finished body turn
+half_a_character = refl
 
 abbrev letters : List (Key × ℕ)
 letters = (record { 0 = pos 97 }, 0) ∷ (record { 0 = pos 98 }, 0) ∷ []

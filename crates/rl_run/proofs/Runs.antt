@@ -8,12 +8,12 @@ use Rattle.rl_run.specs.declared.sessions.Flow.{Flow}
 use Rattle.rl_run.specs.declared.sessions.Flow.TheVariants.{Goes, Jumps, Breaks, Stops}
 use Rattle.rl_run.specs.declared.calls.Outcome.TheVariants.{Wants, Broke, Ended, Stopped}
 use Rattle.rl_run.specs.declared.calls.Stop.{Stop as StopCause}
-use Rattle.rl_run.specs.declared.calls.Stop.TheVariants.{PastEnd}
+use Rattle.rl_run.specs.declared.calls.Stop.TheVariants.{PastEnd, HalfKey}
 use Rattle.rl_run.specs.declared.sessions.Settings.{Settings}
 use Rattle.rl_run.specs.Machine.{Machine, Session}
 use Rattle.rl_run.specs.Picks.{Came, came}
 use Rattle.rl_run.specs.Turn.{turn}
-use Rattle.rl_run.specs.Run.{Input, Rest, rest, letter, end_of, after, last_delivery, last_list, over, at_kept, ending, at_letter, turns}
+use Rattle.rl_run.specs.Run.{Input, Rest, rest, letter, end_of, after, last_delivery, last_list, over, at_kept, ending, at_end, at_letter, turns}
 use Rattle.rl_run.specs.Play.{Play, Plays}
 use Rattle.rl_run.proofs.Plays.{plays_bind}
 
@@ -53,26 +53,32 @@ module _ {S H : Type 0} (step : H → Call → Answer → H → Type 0) (m : Mac
   unfolding after
   plays_stopped b n cause s h = (refl, refl)
 
--- the byte at a position that is seen
-pub letter_some : (base : ℕ) (bytes : List ℕ) (is_closed : Bool) (p : ℕ) → base ≤ p → p < base + length bytes →
-    letter (record { base = base; bytes = bytes; is_closed = is_closed }) p ≡ Some (get_or bytes (p - base) 0)
-letter_some base bytes is_closed p a b =
+-- the character at a position that is seen
+pub letter_some : (base : ℕ) (characters : List ℕ) (is_closed has_rest : Bool) (p : ℕ) → base ≤ p → p < base + length characters →
+    letter (record { base = base; characters = characters; is_closed = is_closed; has_rest = has_rest }) p ≡ Some (get_or characters (p - base) 0)
+letter_some base characters is_closed has_rest p a b =
     let no : nat_lt p base ≡ false = grind (arith, nat_tests) in
-    rw no (slice_get-get_or bytes (p - base) 0 (omega arith))
+    rw no (slice_get-get_or characters (p - base) 0 (omega arith))
 
-pub letter_none : (base : ℕ) (bytes : List ℕ) (is_closed : Bool) (p : ℕ) → base + length bytes ≤ p →
-    letter (record { base = base; bytes = bytes; is_closed = is_closed }) p ≡ None
-letter_none base bytes is_closed p b =
+pub letter_none : (base : ℕ) (characters : List ℕ) (is_closed has_rest : Bool) (p : ℕ) → base + length characters ≤ p →
+    letter (record { base = base; characters = characters; is_closed = is_closed; has_rest = has_rest }) p ≡ None
+letter_none base characters is_closed has_rest p b =
     let no : nat_lt p base ≡ false = grind (arith, nat_tests) in
-    rw no (slice_get_past bytes (p - base) (omega arith))
+    rw no (slice_get_past characters (p - base) (omega arith))
 
 module _ {S H : Type 0} (step : H → Call → Answer → H → Type 0) (m : Machine S) (settings : Settings) (input : Input) where
-  -- the end of a closed input
-  pub plays_ending : (is_broken_off : Bool) (n : ℕ) (s : Session S) (h last : H) (r : Rest S) → letter input s.next ≡ None → input.is_closed ≡ true →
+  -- bytes that fill no character, at the end of a closed input
+  pub plays_half : (is_broken_off : Bool) (n : ℕ) (s : Session S) (h : H) → letter input s.next ≡ None → input.is_closed ≡ true → input.has_rest ≡ true →
+      Plays step h (turns is_broken_off m settings input (suc n) s) h (rest (Some (Stopped HalfKey)) s)
+  unfolding turns at_letter at_end
+  plays_half is_broken_off n s h e f g = rw (e, f, g) (refl, refl)
+
+  -- the end of a closed input without such bytes
+  pub plays_ending : (is_broken_off : Bool) (n : ℕ) (s : Session S) (h last : H) (r : Rest S) → letter input s.next ≡ None → input.is_closed ≡ true → input.has_rest ≡ false →
       Plays step h (ending is_broken_off m settings (end_of input) s (λ t. turns is_broken_off m settings input n t)) last r →
       Plays step h (turns is_broken_off m settings input (suc n) s) last r
-  unfolding turns at_letter
-  plays_ending is_broken_off n s h last r e f p = rw (e, f) p
+  unfolding turns at_letter at_end
+  plays_ending is_broken_off n s h last r e f g p = rw (e, f, g) p
 
   -- past the end
   pub plays_past : (b : Bool) (at : ℕ) (s : Session S) (h : H) (k : Session S → Play (Rest S)) → at < s.next →

@@ -7,12 +7,12 @@ use Rattle.rl_run.specs.declared.sessions.Flow.TheVariants.{Goes, Jumps, Breaks,
 use Rattle.rl_run.specs.declared.calls.Outcome.{Outcome}
 use Rattle.rl_run.specs.declared.calls.Outcome.TheVariants.{Wants, Broke, Ended, Stopped}
 use Rattle.rl_run.specs.declared.calls.Stop.{Stop as StopCause}
-use Rattle.rl_run.specs.declared.calls.Stop.TheVariants.{PastEnd}
+use Rattle.rl_run.specs.declared.calls.Stop.TheVariants.{PastEnd, HalfKey}
 use Rattle.rl_run.specs.declared.sessions.Settings.{Settings}
 use Rattle.rl_run.specs.Machine.{Machine, Session, keep}
 use Rattle.rl_run.specs.Picks.{Came, came}
 use Rattle.rl_run.specs.Turn.{calls, turn}
-use Rattle.rl_run.specs.Run.{Input, Rest, rest, letter, end_of, end_spot, after, last_delivery, over, last_list, at_kept, ending, at_letter, turns}
+use Rattle.rl_run.specs.Run.{Input, Rest, rest, letter, end_of, end_spot, after, last_delivery, over, last_list, at_kept, ending, at_end, at_letter, turns}
 use Rattle.rl_run.specs.Play.{Play, done, ask, bind}
 use Rattle.rl_run.specs.Chain.{run_on}
 use Rattle.rl_run.specs.Fine.{IsKinded, IsFine, GoesOn, UnlessStops, weight}
@@ -102,14 +102,23 @@ module _ {S : Type 0} (m : Machine S) (kinded : IsKinded m) (settings : Settings
           let past : end_of input ≤ s.next = unseen_past input s.next e (omega arith) in
           kept_comes n s fine low w ih (omega arith) s.kept refl
 
+  end_comes : (n : ℕ) (s : Session S) → IsFine m s → input.base ≤ keep settings s → weight s < suc n → Ahead n → letter input s.next ≡ None →
+      AllEnds Comes (at_end b m settings input (λ v. turns b m settings input n v) s)
+  unfolding at_end
+  end_comes n s fine low w ih e = go input.has_rest
+    where
+      go : (d : Bool) → AllEnds Comes (cond d (done (rest (Some (Stopped HalfKey)) s)) (ending b m settings (end_of input) s (λ v. turns b m settings input n v)))
+      go true = stopped_comes HalfKey s
+      go false = ending_comes n s fine low w ih e
+
   letter_comes : (n : ℕ) (s : Session S) → IsFine m s → input.base ≤ keep settings s → weight s < suc n → Ahead n → (l : Option ℕ) → letter input s.next ≡ l →
       AllEnds Comes (at_letter b m settings input (λ v. turns b m settings input n v) s l)
   unfolding at_letter
   letter_comes n s fine low w ih (Some byte) e = part_comes n s low w ih (turn m settings s byte) (turn_law m settings s byte kinded fine (omega (arith, seen_before input s.next byte e)))
   letter_comes n s fine low w ih None e = go input.is_closed
     where
-      go : (d : Bool) → AllEnds Comes (cond d (ending b m settings (end_of input) s (λ v. turns b m settings input n v)) (done (rest (Some Wants) s)))
-      go true = ending_comes n s fine low w ih e
+      go : (d : Bool) → AllEnds Comes (cond d (at_end b m settings input (λ v. turns b m settings input n v) s) (done (rest (Some Wants) s)))
+      go true = end_comes n s fine low w ih e
       go false = some_comes Wants s (λ e. fine)
 
   pub turns_come : (n : ℕ) → Ahead n

@@ -10,7 +10,7 @@ use Rattle.rl_run.specs.Machine.{Machine, Session}
 use Rattle.rl_run.specs.Picks.{came}
 use Rattle.rl_run.specs.Play.{Play, done, ask, bind, Log, ended, stands, run}
 use Rattle.rl_run.specs.Turn.{turn}
-use Rattle.rl_run.specs.Run.{Input, rest, letter, end_of, after, ending, at_letter, turns}
+use Rattle.rl_run.specs.Run.{Input, rest, letter, after, at_end, at_letter, turns}
 use Rattle.rl_run.specs.Chain.{Extends, run_on}
 use Rattle.rl_run.specs.Fine.{weight}
 use Rattle.rl_run.specs.Laws.{IsStandingThere}
@@ -42,7 +42,7 @@ module _ {S : Type 0} (m : Machine S) (settings : Settings) (short long : Input)
       letter short s.next ≡ o → letter long s.next ≡ l →
       Grows (at_letter false m settings short (λ u. turns false m settings short n u) s o) (at_letter false m settings long (λ u. turns false m settings long n u) s l)
   unfolding at_letter
-  letter_grows n h s None l e f = subst (λ b. Grows (cond b (ending false m settings (end_of short) s (λ u. turns false m settings short n u)) (done (rest (Some Wants) s))) (at_letter false m settings long (λ u. turns false m settings long n u) s l)) (sym not_closed) tt
+  letter_grows n h s None l e f = subst (λ b. Grows (cond b (at_end false m settings short (λ u. turns false m settings short n u) s) (done (rest (Some Wants) s))) (at_letter false m settings long (λ u. turns false m settings long n u) s l)) (sym not_closed) tt
   letter_grows n h s (Some byte) None e f = absurd (no (sym (more s.next byte e) ∙ f))
     where
       no : Some byte ≡ None → ⊥

@@ -18,13 +18,13 @@ use Rattle.rl_run.specs.declared.statements.Statement.{Statement}
 use Rattle.rl_run.specs.declared.statements.StatementKind.{StatementKind}
 use Rattle.rl_run.specs.declared.statements.StatementKind.TheVariants.{Hold, Exec, Goto, Call as CallsEntry, Ret, Next, Break}
 use Rattle.rl_run.specs.declared.calls.Stop.{Stop as StopCause}
-use Rattle.rl_run.specs.declared.calls.Stop.TheVariants.{StackFull, StackEmpty, Back, Stuck, Stray, HostStop, ErrorState, Overlong, PastEnd}
+use Rattle.rl_run.specs.declared.calls.Stop.TheVariants.{StackFull, StackEmpty, Back, Stuck, Stray, HostStop, ErrorState, Overlong, PastEnd, HalfKey}
 use Rattle.rl_run.specs.Machine.{Go, Machine, Session, keep}
 use Rattle.rl_run.specs.Picks.{Came, Spot, came, moved, entry_number, stated, pick_one, pick_all, answered, on_goes, takes_picks}
 use Rattle.rl_run.specs.Play.{Play, done, ask, bind, Reached, ended, stands, run}
 use Rattle.rl_run.specs.declared.calls.Outcome.{Outcome}
 use Rattle.rl_run.specs.declared.calls.Outcome.TheVariants.{Wants, Broke, Ended, Stopped}
-use Rattle.rl_run.specs.Run.{Input, Rest, rest, letter, end_of, after, end_spot, last_delivery, over, last_list, at_kept, ending, at_letter, turns}
+use Rattle.rl_run.specs.Run.{Input, Rest, rest, letter, end_of, after, end_spot, last_delivery, over, last_list, at_kept, ending, at_end, at_letter, turns}
 use Rattle.rl_run.specs.Turn.{call_of, calls, if_goes, cleared, sent_home, deliver, token_kept, marked, behind, stepped, judged, failed, missed, chosen, heard, all_conditions, hears, conditions, if_heard, sought, raised, closed, finished, opened, is_overlong, body, spot_of, turn}
 
 same_statements : (kind : CallKind) (f g : ℕ → Option Statement) → ((n : ℕ) → g n ≡ f n) → SameStatements kind f g
@@ -458,12 +458,13 @@ module _ {S T : Type 0} (m : Machine S) (w : Machine T) (ρ : ℕ → ℕ) (R : 
   letter_r : (b : Bool) (input : Input) (s : Session S) (q : T) (st : List T) → R s.state q → HeldR m w ρ R s st → (k : Session S → Play (Rest S)) (l : Session T → Play (Rest T)) →
       ((s : Session S) (q : T) (st : List T) → R s.state q → HeldR m w ρ R s st → PlayR (CallR m w ρ) RestR (k s) (l (lift m w ρ R s q st))) →
       (o : Option ℕ) → PlayR (CallR m w ρ) RestR (at_letter b m settings input k s o) (at_letter b w settings input l (lift m w ρ R s q st) o)
-  unfolding at_letter ending
+  unfolding at_letter at_end ending
   letter_r b input s q st r z k l h (Some byte) =
       bind_r (CallR m w ρ) (CameR m w ρ R) RestR (turn m settings s byte) (turn w settings (lift m w ρ R s q st) byte) _ _ (turn_r byte s q st r z) (λ c d e. after_r b c d k l e h)
   letter_r b input s q st r z k l h None =
       cond_r (CallR m w ρ) RestR input.is_closed _ _ _ _
-      (cond_r (CallR m w ρ) RestR (nat_lt (end_of input) s.next) _ _ _ _ (rest_r (Some (Stopped PastEnd)) s q st r z) (kept_r b (end_of input) s q st r z k l h s.kept z.1))
+      (cond_r (CallR m w ρ) RestR input.has_rest _ _ _ _ (rest_r (Some (Stopped HalfKey)) s q st r z)
+      (cond_r (CallR m w ρ) RestR (nat_lt (end_of input) s.next) _ _ _ _ (rest_r (Some (Stopped PastEnd)) s q st r z) (kept_r b (end_of input) s q st r z k l h s.kept z.1)))
       (rest_r (Some Wants) s q st r z)
 
   -- a run of one machine is the run of the other
