@@ -8,14 +8,14 @@ use Rattle.std.specs.Ordering.{match_ordering}
 use Rattle.std.proofs.lemmas.Int.{ints}
 use Rattle.std.proofs.lemmas.List.{length-map}
 use Rattle.rl_types.specs.declared.alphabet.Alphabet.{Alphabet}
-use Rattle.rl_types.specs.declared.alphabet.Alphabet.TheVariants.{Char, UnsignedChar}
-use Rattle.rl_types.specs.Alphabet.{has_key, least_key, greatest_key}
+use Rattle.rl_types.specs.declared.alphabet.Alphabet.TheVariants.{Char, UnsignedChar, Short, UnsignedShort, Int, UnsignedInt}
+use Rattle.rl_types.specs.Alphabet.{has_key, least_key, greatest_key, keys_from, keys_of}
 use Rattle.rl_types.specs.KeyRange.{Range}
 use Rattle.rl_sets.specs.Sets.{In, set_of, insert}
 use Rattle.rl_sets.specs.Order.{IsOrder}
 use Rattle.rl_sets.proofs.OrderLaws.{bool_order, list_is_order}
 use Rattle.rl_sets.proofs.SetLaws.{In-map, In-map_from, In-set_of_from, set_of-same, Same}
-use Rattle.rl_automata.specs.Refused.{AreDifferent, keys_from, keys_of, held_in, class_count}
+use Rattle.rl_automata.specs.Refused.{AreDifferent, held_in, class_count}
 use Rattle.rl_automata.specs.Laws.{AreOneOfEach}
 
 -- ---- keys in a row
@@ -91,6 +91,10 @@ least_first alphabet = le (least_key alphabet) (greatest_key alphabet) (by alpha
     by : (alphabet : Alphabet) → int_le (least_key alphabet) (greatest_key alphabet) ≡ true
     by Char = refl
     by UnsignedChar = refl
+    by Short = refl
+    by UnsignedShort = refl
+    by Int = refl
+    by UnsignedInt = refl
 
 -- the keys from lo to hi
 between_to : (lo hi k : ℤ) → lo ≤ℤ hi → (int_le lo k && int_le k hi) ≡ true → In k (keys_from lo (int_gap lo hi + 1))

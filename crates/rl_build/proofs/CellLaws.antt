@@ -9,7 +9,7 @@ use Rattle.std.proofs.lemmas.List.Sums.{sum_by-append}
 use Rattle.std.proofs.lemmas.Option.{slice_get-get_or}
 use Rattle.std.proofs.Math.Nat.{div-eq_of_lt, pow-le-pow_right, suc-mul}
 use Rattle.rl_types.specs.declared.alphabet.Alphabet.{Alphabet}
-use Rattle.rl_types.specs.declared.alphabet.Alphabet.TheVariants.{Char, UnsignedChar}
+use Rattle.rl_types.specs.declared.alphabet.Alphabet.TheVariants.{Char, UnsignedChar, Short, UnsignedShort, Int, UnsignedInt}
 use Rattle.rl_types.specs.Alphabet.{has_key, least_key}
 use Rattle.rl_types.specs.KeyRange.{Range, in_range}
 use Rattle.rl_sets.specs.Sets.{In, set_of, insert}
@@ -85,6 +85,10 @@ counted_same alphabet xs ys n same (keys, (inside, different, each), e) = (
 has_least : (alphabet : Alphabet) → IsTrue (has_key alphabet (least_key alphabet))
 has_least Char = refl
 has_least UnsignedChar = refl
+has_least Short = refl
+has_least UnsignedShort = refl
+has_least Int = refl
+has_least UnsignedInt = refl
 
 pub some_class : (alphabet : Alphabet) (xs : List (List Range)) (n : ℕ) → AreCounted alphabet xs n → 0 < n
 some_class alphabet xs n (keys, (inside, different, each), e) = subst (λ w. 0 < w) e (some keys (each (least_key alphabet) (has_least alphabet)))

@@ -7,7 +7,7 @@ use Rattle.std.specs.Option.{option_or}
 use Rattle.std.specs.List.{AllByRecursion}
 use Rattle.std.proofs.lemmas.Int.{ints, int_min_is, int_max_is}
 use Rattle.rl_types.specs.declared.alphabet.Alphabet.{Alphabet}
-use Rattle.rl_types.specs.declared.alphabet.Alphabet.TheVariants.{Char, UnsignedChar}
+use Rattle.rl_types.specs.declared.alphabet.Alphabet.TheVariants.{Char, UnsignedChar, Short, UnsignedShort, Int, UnsignedInt}
 use Rattle.rl_types.specs.Alphabet.{has_key, least_key, greatest_key}
 use Rattle.rl_classes.specs.declared.steps.Steps.{Steps}
 use Rattle.rl_types.specs.KeyRange.{Range, in_range}
@@ -186,3 +186,7 @@ cuts_into f alphabet pieces more lo behind number is c more_is = rw more_is (rec
 pub keys_span : (alphabet : Alphabet) → least_key alphabet ≤ℤ (greatest_key alphabet +ℤ pos 1)
 keys_span Char = omega (arith, ints)
 keys_span UnsignedChar = omega (arith, ints)
+keys_span Short = omega (arith, ints)
+keys_span UnsignedShort = omega (arith, ints)
+keys_span Int = omega (arith, ints)
+keys_span UnsignedInt = omega (arith, ints)

@@ -6,7 +6,7 @@ use Rattle.std.specs.List.Sorted.{IsPartitionPoint, IsPartitionedBy}
 use Rattle.std.proofs.lemmas.Int.{ints}
 use Rattle.std.proofs.lemmas.Bool.Decides.{nat_tests}
 use Rattle.rl_types.specs.declared.alphabet.Alphabet.{Alphabet}
-use Rattle.rl_types.specs.declared.alphabet.Alphabet.TheVariants.{Char, UnsignedChar}
+use Rattle.rl_types.specs.declared.alphabet.Alphabet.TheVariants.{Char, UnsignedChar, Short, UnsignedShort, Int, UnsignedInt}
 use Rattle.rl_types.specs.Alphabet.{has_key}
 use Rattle.rl_types.specs.KeyRange.{Range, in_range}
 use Rattle.rl_classes.specs.declared.steps.Steps.{Steps}
@@ -78,6 +78,10 @@ ends_part ps key o i j d le lt e =
 fits : (alphabet : Alphabet) (key : ℤ) → IsTrue (has_key alphabet key) → key <ℤ pos (2 ^ 63)
 fits Char key e = grind (arith, ints)
 fits UnsignedChar key e = grind (arith, ints)
+fits Short key e = grind (arith, ints)
+fits UnsignedShort key e = grind (arith, ints)
+fits Int key e = grind (arith, ints)
+fits UnsignedInt key e = grind (arith, ints)
 
 some_is : (x y : ℕ) → Some x ≡ Some y → x ≡ y
 some_is x y e = cc

@@ -19,10 +19,7 @@ pub(crate) struct Piece {
 fn least(alphabet: Alphabet) -> i64
     ensures { result ≡ least_key alphabet }
 {
-    match alphabet {
-        Alphabet::Char => -128,
-        Alphabet::UnsignedChar => 0,
-    }
+    alphabet.least_key()
 }
 
 /// The first key behind those of an alphabet.
@@ -32,6 +29,10 @@ fn behind(alphabet: Alphabet) -> i64
     match alphabet {
         Alphabet::Char => 128,
         Alphabet::UnsignedChar => 256,
+        Alphabet::Short => 32_768,
+        Alphabet::UnsignedShort => 65_536,
+        Alphabet::Int => 2_147_483_648,
+        Alphabet::UnsignedInt => 4_294_967_296,
     }
 }
 

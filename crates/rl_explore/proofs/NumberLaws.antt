@@ -110,11 +110,11 @@ module _ {S : Type 0} (eq : S → S → Bool) (same : (c d : S) → IsTrue (eq c
       differ = λ d. elim cases [ inl p ↦ subst AreDifferent (sym p.0) d | inr p ↦ subst AreDifferent (sym p.0) (different_push old c p.2 d) ];
     }
 
-    pub inserted_few : length old ≤ 32767 → n < 32767 → length new ≤ 32767
-    inserted_few l h = elim cases [ inl p ↦ subst (λ w. length w ≤ 32767) (sym p.0) l | inr p ↦ let q : length new ≡ length old + 1 = ap length p.0 ∙ length-push old c in let r : n ≡ length old = p.1 in omega arith ]
+    pub inserted_few : (room : ℕ) → length old ≤ room → n < room → length new ≤ room
+    inserted_few room l h = elim cases [ inl p ↦ subst (λ w. length w ≤ room) (sym p.0) l | inr p ↦ let q : length new ≡ length old + 1 = ap length p.0 ∙ length-push old c in let r : n ≡ length old = p.1 in omega arith ]
 
-    pub inserted_full : length old ≤ 32767 → 32767 ≤ n → (length old ≡ 32767) × ¬ In c old
-    inserted_full l h = elim cases [ inl p ↦ let q : n < length old = p.1 in absurd (omega arith) | inr p ↦ (let r : n ≡ length old = p.1 in omega arith, p.2) ]
+    pub inserted_full : (room : ℕ) → length old ≤ room → room ≤ n → (length old ≡ room) × ¬ In c old
+    inserted_full room l h = elim cases [ inl p ↦ let q : n < length old = p.1 in absurd (omega arith) | inr p ↦ (let r : n ≡ length old = p.1 in omega arith, p.2) ]
 
 -- ---- what stays when more configurations are found
 
@@ -247,13 +247,13 @@ module _ {S : Type 0} where
         ];
       }
 
-  pub numbered_full : (old new : List S) (all fs rest : List (Found S)) (es : List Edge) (f : Found S) → AreNumbered old new fs es → all ≡ (fs ++ f ∷ []) ++ rest
-      → (length new ≡ 32767) × ¬ In f.to new → Overflows old (λ x. In x (tos all))
-  numbered_full old new all fs rest es f a whole full d = (
+  pub numbered_full : (room : ℕ) (old new : List S) (all fs rest : List (Found S)) (es : List Edge) (f : Found S) → AreNumbered old new fs es → all ≡ (fs ++ f ∷ []) ++ rest
+      → (length new ≡ room) × ¬ In f.to new → Overflows room old (λ x. In x (tos all))
+  numbered_full room old new all fs rest es f a whole full d = (
     new ++ f.to ∷ [],
     different_push new f.to full.1 (a.differ d),
     (λ x i. by x (In-append_cases x new (f.to ∷ []) i)),
-    let l : length (new ++ f.to ∷ []) ≡ length new + 1 = length-push new f.to in let m : length new ≡ 32767 = full.0 in omega arith,
+    let l : length (new ++ f.to ∷ []) ≡ length new + 1 = length-push new f.to in let m : length new ≡ room = full.0 in omega arith,
   )
     where
       in_all : (x : S) → In x (tos (fs ++ f ∷ [])) → In x (tos all)
@@ -277,10 +277,10 @@ module _ {S : Type 0} where
   row_leads : (A : Auto S) (c : S) (fs : List (Found S)) → IsRow A c fs → (x : S) → In x (tos fs) → LeadsTo A c x
   row_leads A c fs r x i = let p = In-map_from (λ (f : Found S). f.to) x fs i in (own_letter (found_reads p.0), found_move p.0, (r.each p.0 p.1).step, p.2)
 
-  pub overflows_to : (old : List S) (P Q : S → Type 0) → ((x : S) → P x → Q x) → Overflows old P → Overflows old Q
+  pub overflows_to : (room : ℕ) (old : List S) (P Q : S → Type 0) → ((x : S) → P x → Q x) → Overflows room old P → Overflows room old Q
   overflows_to old P Q f h d = let p = h d in (p.0, p.1, (λ x i. elim (p.2 x i) [ inl j ↦ inl j | inr j ↦ inr (f x j) ]), p.3)
 
-  pub row_overflows : (A : Auto S) (c : S) (fs : List (Found S)) (old : List S) → IsRow A c fs → Overflows old (λ x. In x (tos fs)) → Overflows old (LeadsTo A c)
+  pub row_overflows : (room : ℕ) (A : Auto S) (c : S) (fs : List (Found S)) (old : List S) → IsRow A c fs → Overflows room old (λ x. In x (tos fs)) → Overflows room old (LeadsTo A c)
   row_overflows A c fs old r h = overflows_to old (λ x. In x (tos fs)) (LeadsTo A c) (row_leads A c fs r) h
 
   pub state_is : (A : Auto S) (c : S) (old new : List S) (fs : List (Found S)) (s : State) → IsRow A c fs → AreNumbered old new fs s.edges → s.fin ≡ A.final c → carry_out s.out ≡ A.out c

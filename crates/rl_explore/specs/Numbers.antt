@@ -63,9 +63,9 @@ module _ {S : Type 0} where
     pub differ : AreDifferent old → AreDifferent new
     pub from : (x : S) → In x new → In x old ⊎ In x (tos fs)
 
-  -- more than 32,767 different configurations, each of them an old one or one of these
-  abbrev pub Overflows : List S → (S → Type 0) → Type 0
-  Overflows old P = AreDifferent old → (cs : List S) × AreDifferent cs × ((x : S) → In x cs → In x old ⊎ P x) × (32767 < length cs)
+  -- more different configurations than there is room for, each of them an old one or one of these
+  abbrev pub Overflows : ℕ → List S → (S → Type 0) → Type 0
+  Overflows room old P = AreDifferent old → (cs : List S) × AreDifferent cs × ((x : S) → In x cs → In x old ⊎ P x) × (room < length cs)
 
   -- a letter leads from c to x
   abbrev pub LeadsTo : Auto S → S → S → Type 0
@@ -104,8 +104,8 @@ module _ {S : Type 0} where
 
 -- As far as an exploration has come: these configurations were found, the states of the first ones are made, and
 -- `cycle` tells whether a cycle of priorities was met.
-pub record Explored {S : Type 0} (A : Auto S) (jams : S → Letter → Bool) (names : List S) (states : List State) (cycle : Bool) : Type 0 where
-  pub few : length names ≤ 32767
+pub record Explored {S : Type 0} (A : Auto S) (jams : S → Letter → Bool) (room : ℕ) (names : List S) (states : List State) (cycle : Bool) : Type 0 where
+  pub few : length names ≤ room
   pub within : length states ≤ length names
   pub start : slice_get names 0 ≡ Some A.start
   pub differ : AreDifferent names
@@ -115,14 +115,21 @@ pub record Explored {S : Type 0} (A : Auto S) (jams : S → Letter → Bool) (na
   pub jammed : cycle ≡ true → JamsSomewhere A jams
   pub clear : cycle ≡ false → (j : ℕ) (c : S) → j < length states → slice_get names j ≡ Some c → (l : Letter) → jams c l ≡ false
 
--- a fault of an operator that may have `most` configurations, and its cause
-abbrev pub IsCause : {S : Type 0} → Auto S → (S → Letter → Bool) → ℕ → BuildFault → Type 0
-IsCause A jams most L6 = HasMore A 32767
-IsCause A jams most L8 = ¬ HasMore A 32767 × HasMore A most
-IsCause A jams most (F12 i) = ⊥
-IsCause A jams most F15 = ¬ HasMore A 32767 × ¬ HasMore A most × JamsSomewhere A jams
-IsCause A jams most Memory = Unit {0}
+-- a fault of an exploration that has room for so many configurations, of an operator that may have `most`, and its cause
+abbrev pub IsCauseWithin : {S : Type 0} → ℕ → Auto S → (S → Letter → Bool) → ℕ → BuildFault → Type 0
+IsCauseWithin room A jams most L6 = HasMore A room
+IsCauseWithin room A jams most L8 = ¬ HasMore A room × HasMore A most
+IsCauseWithin room A jams most (F12 i) = ⊥
+IsCauseWithin room A jams most F15 = ¬ HasMore A room × ¬ HasMore A most × JamsSomewhere A jams
+IsCauseWithin room A jams most Memory = Unit {0}
 
 -- no cause for a fault
+abbrev pub HasNoCauseWithin : {S : Type 0} → ℕ → Auto S → (S → Letter → Bool) → ℕ → Type 0
+HasNoCauseWithin room A jams most = ¬ HasMore A room × ¬ HasMore A most × ¬ JamsSomewhere A jams
+
+-- the same of a node, which may have 32,767 configurations
+abbrev pub IsCause : {S : Type 0} → Auto S → (S → Letter → Bool) → ℕ → BuildFault → Type 0
+IsCause A jams most fault = IsCauseWithin 32767 A jams most fault
+
 abbrev pub HasNoCause : {S : Type 0} → Auto S → (S → Letter → Bool) → ℕ → Type 0
-HasNoCause A jams most = ¬ HasMore A 32767 × ¬ HasMore A most × ¬ JamsSomewhere A jams
+HasNoCause A jams most = HasNoCauseWithin 32767 A jams most

@@ -13,5 +13,5 @@ mod row;
 mod state;
 
 pub use fault::BuildFault;
-pub use machine::explore;
+pub use machine::{explore, explore_within};
 pub use operator::{Operator, Step};

@@ -12,18 +12,19 @@ use rl_fsm::Edge;
 use rl_labels::Carry;
 use std::alloc::Global;
 
-// The most configurations of a node.
-const MOST: usize = 32767;
-
-// The number of the configuration, which is the next one where it has none yet; L6 where there are too many then.
-pub fn number<O: Operator>(names: &mut Names<O::Conf>, c: O::Conf) -> Result<u32, BuildFault>
-    requires { length names.old ≤ 32767 }
+// The number of the configuration, which is the next one where it has none yet; L6 where there is no room for it.
+pub fn number<O: Operator>(
+    names: &mut Names<O::Conf>,
+    c: O::Conf,
+    room: u32,
+) -> Result<u32, BuildFault>
+    requires { length names.old ≤ room }
     ensures number { IfOk result (λ n. HasNumber names.old names.new c n) }
-    ensures few { IfOk result (λ _. length names.new ≤ 32767) }
-    ensures full { IfErr result (IsFull ((length names.old ≡ 32767) × ¬ In c names.old)) }
+    ensures few { IfOk result (λ _. length names.new ≤ room) }
+    ensures full { IfErr result (IsFull ((length names.old ≡ room) × ¬ In c names.old)) }
 {
     let number = names.insert(c)?;
-    if number >= MOST {
+    if number >= room as usize {
         return Err(BuildFault::L6);
     }
     Ok(number as u32)
@@ -34,11 +35,12 @@ pub fn numbered<O: Operator>(
     alloc: Global,
     names: &mut Names<O::Conf>,
     found: Vec<Found<O::Conf>>,
+    room: u32,
 ) -> Result<Vec<Edge>, BuildFault>
-    requires { length names.old ≤ 32767 }
+    requires { length names.old ≤ room }
     ensures numbered { IfOk result (λ es. AreNumbered names.old names.new found.items es.items) }
-    ensures few { IfOk result (λ _. length names.new ≤ 32767) }
-    ensures full { IfErr result (IsFull (Overflows names.old (λ x. In x (tos found.items)))) }
+    ensures few { IfOk result (λ _. length names.new ≤ room) }
+    ensures full { IfErr result (IsFull (Overflows room names.old (λ x. In x (tos found.items)))) }
 {
     let mut edges = Vec::new(alloc);
     for f in found {
@@ -50,7 +52,7 @@ pub fn numbered<O: Operator>(
             carry,
         } = f;
         let Carry { actions, table } = carry;
-        let target = number::<O>(names, to)?;
+        let target = number::<O>(names, to, room)?;
         let edge = Edge {
             range,
             asks,

@@ -46,12 +46,13 @@ pub fn state_of<O: Operator>(
     op: &O,
     names: &mut Names<O::Conf>,
     number: usize,
+    room: u32,
 ) -> Result<Made, BuildFault>
     requires there { number < length names.old }
-    requires few { length names.old ≤ 32767 }
+    requires few { length names.old ≤ room }
     ensures made { IfOk result (λ m. (c : O.Conf) × (slice_get names.old number ≡ Some c) × IsMade (O.auto op.now) (O.jams op.now) c names.old names.new m) }
-    ensures few { IfOk result (λ _. length names.new ≤ 32767) }
-    ensures full { IfErr result (IsFull ((c : O.Conf) × (slice_get names.old number ≡ Some c) × Overflows names.old (LeadsTo (O.auto op.now) c))) }
+    ensures few { IfOk result (λ _. length names.new ≤ room) }
+    ensures full { IfErr result (IsFull ((c : O.Conf) × (slice_get names.old number ≡ Some c) × Overflows room names.old (LeadsTo (O.auto op.now) c))) }
 {
     let c = named::<O>(names, number);
     let Told {
@@ -61,7 +62,7 @@ pub fn state_of<O: Operator>(
         marks,
     } = told(alloc, op, c)?;
     let Row { found, cycle } = row;
-    let edges = numbered::<O>(alloc, names, found)?;
+    let edges = numbered::<O>(alloc, names, found, room)?;
     let Carry { actions, table } = out;
     let state = State {
         fin,

@@ -6,6 +6,6 @@ use Rattle.rl_explore.proofs.number.numbered.Given as goal
 abbrev pub invariant-loop-f : goal.invariant-loop-f
 invariant-loop-f g l = record {
   numbered : AreNumbered l.initial.names l.names l.yielded l.edges.items;
-  few : length l.names ≤ 32767;
+  few : length l.names ≤ l.fn.room;
   whole : l.fn.found.items ≡ l.yielded ++ into_iter_items l.f-iterator;
 }
