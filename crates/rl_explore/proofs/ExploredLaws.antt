@@ -51,9 +51,9 @@ different_within (c ∷ cs) ys d h =
     let e : length ys ≡ suc (length p.0) = p.1 in
     omega arith
 
-module _ {S : Type 0} (A : Auto S) (jams : S → Letter → Bool) where
-  pub explored_first : (names : List S) (s : S) (n : ℕ) → HasNumber [] names s n → s ≡ A.start → Explored A jams names [] false
-  explored_first names s n h e = subst (λ w. Explored A jams w [] false) (sym (one ∙ ap (λ w. w ∷ []) e)) (record {
+module _ {S : Type 0} (A : Auto S) (jams : S → Letter → Bool) (room : ℕ) where
+  pub explored_first : (names : List S) (s : S) (n : ℕ) → 1 ≤ room → HasNumber [] names s n → s ≡ A.start → Explored A jams room names [] false
+  explored_first names s n few h e = subst (λ w. Explored A jams room w [] false) (sym (one ∙ ap (λ w. w ∷ []) e)) (record {
     few = few;
     within = within;
     start = refl;
@@ -68,13 +68,10 @@ module _ {S : Type 0} (A : Auto S) (jams : S → Letter → Bool) where
       one : names ≡ s ∷ []
       one = elim h.grows [ inl q ↦ let l : n < 0 = q.1 in absurd (omega arith) | inr q ↦ q.0 ]
 
-      few : 1 ≤ 32767
-      few = omega arith
-
       within : 0 ≤ 1
       within = omega arith
 
-  pub explored_full : (names : List S) (states : List State) (cycle : Bool) (c : S) → Explored A jams names states cycle → In c names → Overflows names (LeadsTo A c) → HasMore A 32767
+  pub explored_full : (names : List S) (states : List State) (cycle : Bool) (c : S) → Explored A jams room names states cycle → In c names → Overflows room names (LeadsTo A c) → HasMore A room
   explored_full names states cycle c x i o =
       let p = o x.differ in (
         p.0,
@@ -88,9 +85,9 @@ module _ {S : Type 0} (A : Auto S) (jams : S → Letter → Bool) where
         p.3,
       )
 
-  pub explored_more : (names names' : List S) (states : List State) (cycle cycle' : Bool) (c : S) (m : Made) → Explored A jams names states cycle → length states < length names
-      → slice_get names (length states) ≡ Some c → IsMade A jams c names names' m → length names' ≤ 32767 → cycle' ≡ (cycle || m.cycle)
-      → Explored A jams names' (states ++ m.state ∷ []) cycle'
+  pub explored_more : (names names' : List S) (states : List State) (cycle cycle' : Bool) (c : S) (m : Made) → Explored A jams room names states cycle → length states < length names
+      → slice_get names (length states) ≡ Some c → IsMade A jams c names names' m → length names' ≤ room → cycle' ≡ (cycle || m.cycle)
+      → Explored A jams room names' (states ++ m.state ∷ []) cycle'
   explored_more names names' states cycle cycle' c m x lt at h few both =
       let l : length (states ++ m.state ∷ []) ≡ length states + 1 = length-push states m.state in
       let more : length names ≤ length names' = extends_length names names' h.grows.extends in
@@ -153,7 +150,7 @@ module _ {S : Type 0} (A : Auto S) (jams : S → Letter → Bool) where
         | false ↦ λ q. inr (find_in l es e q)
       ]) h
 
-  module _ (names : List S) (states : List State) (cycle : Bool) (x : Explored A jams names states cycle) (all : length names ≤ length states) where
+  module _ (names : List S) (states : List State) (cycle : Bool) (x : Explored A jams room names states cycle) (all : length names ≤ length states) (fits : room ≤ 2147483646) where
     abbrev G : Graph
     G = record { start = 0; states = states }
 
@@ -220,7 +217,7 @@ module _ {S : Type 0} (A : Auto S) (jams : S → Letter → Bool) where
 
     pub explored_sound : IsSound G
     explored_sound = record {
-      few = let f : length names ≤ 32767 = x.few in omega arith;
+      few = let f : length names ≤ room = x.few in omega arith;
       start = let z = some_names in omega arith;
       edges = All-from_In (λ (s : State). AreEdges (length states) s.edges) states state_edges;
     }

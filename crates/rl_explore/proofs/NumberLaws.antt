@@ -278,10 +278,10 @@ module _ {S : Type 0} where
   row_leads A c fs r x i = let p = In-map_from (λ (f : Found S). f.to) x fs i in (own_letter (found_reads p.0), found_move p.0, (r.each p.0 p.1).step, p.2)
 
   pub overflows_to : (room : ℕ) (old : List S) (P Q : S → Type 0) → ((x : S) → P x → Q x) → Overflows room old P → Overflows room old Q
-  overflows_to old P Q f h d = let p = h d in (p.0, p.1, (λ x i. elim (p.2 x i) [ inl j ↦ inl j | inr j ↦ inr (f x j) ]), p.3)
+  overflows_to room old P Q f h d = let p = h d in (p.0, p.1, (λ x i. elim (p.2 x i) [ inl j ↦ inl j | inr j ↦ inr (f x j) ]), p.3)
 
   pub row_overflows : (room : ℕ) (A : Auto S) (c : S) (fs : List (Found S)) (old : List S) → IsRow A c fs → Overflows room old (λ x. In x (tos fs)) → Overflows room old (LeadsTo A c)
-  row_overflows A c fs old r h = overflows_to old (λ x. In x (tos fs)) (LeadsTo A c) (row_leads A c fs r) h
+  row_overflows room A c fs old r h = overflows_to room old (λ x. In x (tos fs)) (LeadsTo A c) (row_leads A c fs r) h
 
   pub state_is : (A : Auto S) (c : S) (old new : List S) (fs : List (Found S)) (s : State) → IsRow A c fs → AreNumbered old new fs s.edges → s.fin ≡ A.final c → carry_out s.out ≡ A.out c
       → ((k : Kind) → marks_of k s.marks ≡ A.marks c k) → IsState A new c s × Grows A c old new s

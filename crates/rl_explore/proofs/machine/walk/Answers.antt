@@ -7,14 +7,14 @@ use Rattle.rl_explore.proofs.machine.walk.Goals as goal
 use Rattle.rl_explore.proofs.machine.walk.Goals.{then-cycle, else-cycle}
 
 pub states-init : goal.states-init
-states-init g c = rw c.new-states.ensures.items (explored_first (g.O.Operator.auto c.args.op.now) (g.O.Operator.jams c.args.op.now) c.number.new.names c.in_ok-first.first c.in_ok-number.field-0
+states-init g c = rw c.new-states.ensures.items (explored_first (g.O.Operator.auto c.args.op.now) (g.O.Operator.jams c.args.op.now) c.args.room c.number.new.names c.in_ok-first.first c.in_ok-number.field-0 c.requires
     (subst (λ old. HasNumber old c.number.new.names c.in_ok-first.first c.in_ok-number.field-0) c.new-names.ensures c.in_ok-number.ensures.number) c.in_ok-first.ensures)
 
 pub returns-in_err-made-clause-full : goal.returns-in_err-made-clause-full
 returns-in_err-made-clause-full g c =
     let p = err_from_is_err_and c.from_residual-in_err-made.result c.from_residual-in_err-made.ensures.1 in
     rw (p.1, p.2) (full_to _ _ c.in_err-made.field-0.0
-    (λ h. explored_full (g.O.Operator.auto c.args.op.now) (g.O.Operator.jams c.args.op.now) c.states.names c.states.states.items c.states.cycle h.0 c.states.invariant (get_In c.states.names _ h.0 h.1) h.2)
+    (λ h. explored_full (g.O.Operator.auto c.args.op.now) (g.O.Operator.jams c.args.op.now) c.args.room c.states.names c.states.states.items c.states.cycle h.0 c.states.invariant (get_In c.states.names _ h.0 h.1) h.2)
     c.in_err-made.ensures.full)
 
 either_first : (a b : Bool) → a ≡ true → true ≡ (a || b)
@@ -33,5 +33,5 @@ states-preserved g c =
       | else-cycle w ↦ w.cycle-is ∙ either_second c.states.cycle c.in_ok-made.made.cycle w.if-cycle.false
     ] in
     rw c.in_ok-push.ensures
-    (explored_more (g.O.Operator.auto c.args.op.now) (g.O.Operator.jams c.args.op.now) c.states.names c.state_of.new.names c.states.states.items c.states.cycle c.if-cycle.cycle m.0 c.in_ok-made.made
+    (explored_more (g.O.Operator.auto c.args.op.now) (g.O.Operator.jams c.args.op.now) c.args.room c.states.names c.state_of.new.names c.states.states.items c.states.cycle c.if-cycle.cycle m.0 c.in_ok-made.made
     c.states.invariant lt (ap (slice_get c.states.names) (sym at) ∙ m.1) m.2 c.in_ok-made.ensures.few both)

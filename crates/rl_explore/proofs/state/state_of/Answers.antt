@@ -20,4 +20,4 @@ returns-in_err-edges-clause-full g c =
     let s = c.named-c.result.now in
     let t = c.in_ok-row.ensures in
     let p = err_from_is_err_and c.from_residual-in_err-edges.result c.from_residual-in_err-edges.ensures.1 in
-    rw (p.1, p.2) (full_to _ _ c.in_err-edges.field-0.0 (λ h. (s, c.named-c.ensures, row_overflows A s c.in_ok-row.field-0.row.found.items c.args.names.now t.row h)) c.in_err-edges.ensures.full)
+    rw (p.1, p.2) (full_to _ _ c.in_err-edges.field-0.0 (λ h. (s, c.named-c.ensures, row_overflows c.args.room A s c.in_ok-row.field-0.row.found.items c.args.names.now t.row h)) c.in_err-edges.ensures.full)
