@@ -13,7 +13,7 @@ ghost use Rattle.rl_embed.specs.Guarded.{reads_in, reads_key, marks_at, guarded_
 use crate::copies::{copied_marks, no_marks};
 use crate::guarded::Guard;
 use rl_automata::{Kind, Move};
-use rl_explore::{Operator, Step, explore};
+use rl_explore::{Operator, Step, explore_within};
 use rl_fsm::{Edge, Fsm, Marks, look_ups};
 use rl_labels::{Carry, Truths};
 use rl_types::{CondId, KeyRange, Letter, Memory};
@@ -116,11 +116,13 @@ impl<'a> Operator for Guard<'a> {
     ghost same = { unsigned_Decides };
 }
 
+// The most states of a machine.
+const MOST: u32 = 2_147_483_646;
+
 /// The machine in which each transition exists only where the condition of this number, 1 to 8, holds (the guide's section
 /// 6.5; that conditions are asked as a set is this profile's). Where no transition is left at a key, nothing is asked
 /// there. The states that are still reached are numbered anew, as a walk from the start finds them. An `Err` is want of
-/// memory, and the machine handed in is gone then; it comes as well where more than 32,767 states are still reached, which
-/// is so of no machine that an operator makes.
+/// memory, and the machine handed in is gone then.
 pub fn guard(alloc: Global, a: Fsm, cond: CondId) -> Result<Fsm, Memory>
     requires first { 1 ≤ cond.0 }
     requires last { cond.0 ≤ 8 }
@@ -128,7 +130,7 @@ pub fn guard(alloc: Global, a: Fsm, cond: CondId) -> Result<Fsm, Memory>
     ensures stands { IfOk result (λ m. (t : Node) → StandsFor t a → StandsFor (N.When t cond.0) m) }
 {
     let guard = Guard { machine: &a, cond };
-    let Ok(m) = explore(alloc, &guard, u32::MAX) else {
+    let Ok(m) = explore_within(alloc, &guard, MOST, u32::MAX) else {
         return Err(Memory);
     };
     Ok(m)
