@@ -69,35 +69,43 @@ unfolding digits
 no_action = refl
 
 pub each_call : EachCallHasItsLine
-unfolding characters statements_from statements_of digits run_on weight tail_weight turns at_letter at_end after ending at_kept last_list last_delivery if_goes deliver marked stepped failed missed chosen if_heard sought finished body turn
+unfolding characters statements_from statements_of digits run_on weight tail_weight turns at_letter at_end after ending
+    at_kept last_list last_delivery if_goes deliver marked stepped failed missed chosen if_heard sought finished body turn
 each_call = refl
 
 pub stopped : StopsForGood
-unfolding characters statements_from statements_of digits run_on weight tail_weight turns at_letter at_end after ending at_kept last_list last_delivery if_goes deliver marked stepped failed missed chosen if_heard sought finished body turn
+unfolding characters statements_from statements_of digits run_on weight tail_weight turns at_letter at_end after ending
+    at_kept last_list last_delivery if_goes deliver marked stepped failed missed chosen if_heard sought finished body turn
 stopped = refl
 
 pub left_behind : LeftAreTold
-unfolding characters statements_from statements_of digits run_on weight tail_weight turns at_letter at_end after ending at_kept last_list last_delivery if_goes deliver marked stepped failed missed chosen if_heard sought finished body turn
+unfolding characters statements_from statements_of digits run_on weight tail_weight turns at_letter at_end after ending
+    at_kept last_list last_delivery if_goes deliver marked stepped failed missed chosen if_heard sought finished body turn
 left_behind = refl
 
 pub interleaved : SessionsTakeTurns
-unfolding characters statements_from statements_of digits run_on weight tail_weight turns at_letter at_end after ending at_kept last_list last_delivery if_goes deliver marked stepped failed missed chosen if_heard sought finished body turn
+unfolding characters statements_from statements_of digits run_on weight tail_weight turns at_letter at_end after ending
+    at_kept last_list last_delivery if_goes deliver marked stepped failed missed chosen if_heard sought finished body turn
 interleaved = refl
 
 pub second_call_picked : SecondCallIsPicked
-unfolding characters statements_from statements_of digits run_on weight tail_weight turns at_letter at_end after ending at_kept last_list last_delivery if_goes deliver marked stepped failed missed chosen if_heard sought finished body turn
+unfolding characters statements_from statements_of digits run_on weight tail_weight turns at_letter at_end after ending
+    at_kept last_list last_delivery if_goes deliver marked stepped failed missed chosen if_heard sought finished body turn
 second_call_picked = refl
 
 pub no_such_statement : NoSuchStatement
-unfolding characters statements_from statements_of digits run_on weight tail_weight turns at_letter at_end after ending at_kept last_list last_delivery if_goes deliver marked stepped failed missed chosen if_heard sought finished body turn
+unfolding characters statements_from statements_of digits run_on weight tail_weight turns at_letter at_end after ending
+    at_kept last_list last_delivery if_goes deliver marked stepped failed missed chosen if_heard sought finished body turn
 no_such_statement = refl
 
 pub half_a_character : HalfACharacter
-unfolding characters statements_from statements_of digits run_on weight tail_weight turns at_letter at_end after ending at_kept last_list last_delivery if_goes deliver marked stepped failed missed chosen if_heard sought finished body turn
+unfolding characters statements_from statements_of digits run_on weight tail_weight turns at_letter at_end after ending
+    at_kept last_list last_delivery if_goes deliver marked stepped failed missed chosen if_heard sought finished body turn
 half_a_character = refl
 
 pub cut_character : ACharacterIsCut
-unfolding characters statements_from statements_of digits run_on weight tail_weight turns at_letter at_end after ending at_kept last_list last_delivery if_goes deliver marked stepped failed missed chosen if_heard sought finished body turn
+unfolding characters statements_from statements_of digits run_on weight tail_weight turns at_letter at_end after ending
+    at_kept last_list last_delivery if_goes deliver marked stepped failed missed chosen if_heard sought finished body turn
 cut_character = refl
 
 -- a scanner of one pattern, with an action in every list, under a condition
@@ -125,11 +133,13 @@ scanner = record {
 }
 
 all_kinds : replay scanner (codes "say s c 1 yes\nopen s\npiece s \"a\"\nend s") ≡ codes "s from x 0\ns ask c 0 yes\ns do x 0\ns token x 0 0 1\ns to x 0\ns eof x 1\ns end final 1\n"
-unfolding characters statements_from statements_of digits run_on weight tail_weight turns at_letter at_end after ending at_kept last_list last_delivery if_goes deliver marked stepped failed missed chosen if_heard sought finished body turn
+unfolding characters statements_from statements_of digits run_on weight tail_weight turns at_letter at_end after ending
+    at_kept last_list last_delivery if_goes deliver marked stepped failed missed chosen if_heard sought finished body turn
 all_kinds = refl
 
 told_no : replay scanner (codes "say s c 2 yes\nopen s\npiece s \"a\"\nend s") ≡ codes "s from x 0\ns ask c 0 no\ns stop error 0\ns end error 0\n"
-unfolding characters statements_from statements_of digits run_on weight tail_weight turns at_letter at_end after ending at_kept last_list last_delivery if_goes deliver marked stepped failed missed chosen if_heard sought finished body turn
+unfolding characters statements_from statements_of digits run_on weight tail_weight turns at_letter at_end after ending
+    at_kept last_list last_delivery if_goes deliver marked stepped failed missed chosen if_heard sought finished body turn
 told_no = refl
 
 -- an action that executes behind the character, goes to the entry, and would hold
@@ -143,5 +153,6 @@ abbrev jumping : Machine ℕ
 jumping = record ab { statement = λ a n. jump n }
 
 picked_by_itself : replay jumping (codes "open s\npiece s \"aa\"\nend s\npick s x 2 -") ≡ codes "s do x 0 exec 1 goto main\ns do x 1\ns end partial 2\n"
-unfolding characters statements_from statements_of digits run_on weight tail_weight turns at_letter at_end after ending at_kept last_list last_delivery if_goes deliver marked stepped failed missed chosen if_heard sought finished body turn
+unfolding characters statements_from statements_of digits run_on weight tail_weight turns at_letter at_end after ending
+    at_kept last_list last_delivery if_goes deliver marked stepped failed missed chosen if_heard sought finished body turn
 picked_by_itself = refl

@@ -209,7 +209,8 @@ module _ {S T : Type 0} (m : Machine S) (w : Machine T) (ρ : ℕ → ℕ) where
         ∙ ap (λ t. calls_lines m s (host m own) [] a.0 ++ t) (ends_same a.1 b.1 h.1 input.is_closed)
         ∙ sym (append_assoc (calls_lines m s (host m own) [] a.0) (stop_lines s a.1) (cond input.is_closed (end_line s (verdict_of m a.1) a.1.session.next) []))
 
-    session_same : (names : Names) (settings : Settings) (own past : List Line) → session_lines names w settings s own past ≡ session_lines names m settings s own past
+    session_same : (names : Names) (settings : Settings) (own past : List Line) →
+        session_lines names w settings s own past ≡ session_lines names m settings s own past
     session_same names settings own past =
         ap (λ n. cond (is_opened past) (run_lines w settings s (host w own) (entry_of names past) (input_of n past)) []) twin.width
         ∙ ap (λ t. cond (is_opened past) t []) (run_same settings own (entry_of names past) (input_of m.width past))

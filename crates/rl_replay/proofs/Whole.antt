@@ -33,7 +33,8 @@ first_append (y ∷ xs) ys x e = e
 extends_more : (width : ℕ) (xs ys : List ℕ) (a b : Bool) → Extends (input_at width 0 xs a) (input_at width 0 (xs ++ ys) b)
 extends_more width xs ys a b p character e = go (nat_lt p 0) e
   where
-    go : (b : Bool) → cond b None (slice_get (characters width xs) (p - 0)) ≡ Some character → cond b None (slice_get (characters width (xs ++ ys)) (p - 0)) ≡ Some character
+    go : (b : Bool) → cond b None (slice_get (characters width xs) (p - 0)) ≡ Some character →
+        cond b None (slice_get (characters width (xs ++ ys)) (p - 0)) ≡ Some character
     go true e = absurd (cc e)
     go false e = characters_of_front width xs ys (p - 0) character e
 

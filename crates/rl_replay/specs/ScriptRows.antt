@@ -120,7 +120,9 @@ wide = record ab { width = 2; find = λ state key hold. find_wide state key }
 
 -- a piece may end within a character
 abbrev pub ACharacterIsCut : Type 0
-ACharacterIsCut = replay wide (codes "open s\npiece s \"\\x00\"\npiece s \"\\x01\"\nend s") ≡ codes "s do x 0\ns end final 1\n"
+ACharacterIsCut =
+    replay wide (codes "open s\npiece s \"\\x00\"\npiece s \"\\x01\"\nend s")
+    ≡ codes "s do x 0\ns end final 1\n"
 
 -- and an input may not
 abbrev pub HalfACharacter : Type 0

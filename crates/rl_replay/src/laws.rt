@@ -26,8 +26,8 @@ pub fn pieces_add_up()
         texts_of s (parts_from names m settings script [] script) ≡ session_lines names m settings s (only s script) (only s script) }
 {}
 
-/// A session that is opened, has one piece and is ended writes the lines of one run over that piece's characters, from its
-/// entry on; the host takes the statements that it takes by itself.
+/// A session that is opened, has one piece and is ended writes the lines of one run over that piece's characters, from
+/// its entry on; the host takes the statements that it takes by itself.
 pub fn whole_inputs_are_one_run()
     ensures { (names : Names) (m : Machine ℕ) (settings : Settings) (s : List ℕ) (entry : Option (List ℕ)) (bytes : List ℕ) →
         written names m settings (whole_input s entry bytes)
