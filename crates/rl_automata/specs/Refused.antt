@@ -1,13 +1,12 @@
 -- Which node is refused, and for which cause. The limits are this profile's.
-use Rattle.std.specs.Prelude.{◌≡◌, ℕ, zero, suc, ◌+◌, ◌*◌, ◌^◌, ◌<◌, ℤ, ◌+ℤ◌, pos, Bool, true, false, List, [], ◌∷◌, ◌++◌, map, length, Option, Some, None, IsTrue}
+use Rattle.std.specs.Prelude.{◌≡◌, ℕ, zero, suc, ◌+◌, ◌*◌, ◌^◌, ◌<◌, ℤ, Bool, true, false, List, [], ◌∷◌, ◌++◌, map, length, Option, Some, None, IsTrue}
 use Rattle.std.specs.Ordering.{nat_cmp, bool_cmp}
 use Rattle.std.specs.Cmp.Lexicographic.{slice_cmp}
-use Rattle.std.specs.Int.{int_gap}
 use Rattle.std.specs.List.{list_any}
 use Rattle.std.specs.Option.{option_map}
 use Rattle.rl_types.specs.declared.numbers.Letter.{Letter}
 use Rattle.rl_types.specs.declared.alphabet.Alphabet.{Alphabet}
-use Rattle.rl_types.specs.Alphabet.{least_key, greatest_key}
+use Rattle.rl_types.specs.Alphabet.{keys_of}
 use Rattle.rl_types.specs.KeyRange.{Range, in_range}
 use Rattle.rl_sets.specs.Sets.{In, set_of}
 use Rattle.rl_automata.specs.Auto.{Auto}
@@ -42,15 +41,6 @@ abbrev pub JamsSomewhere : {S : Type 0} → Auto S → (S → Letter → Bool) �
 JamsSomewhere {S} A jam = (c : S) × Reach A c × (l : Letter) × IsTrue (jam c l)
 
 -- ---- how many cells a configuration has
-
--- n keys in a row
-abbrev pub keys_from : ℤ → ℕ → List ℤ
-keys_from k zero = []
-keys_from k (suc n) = k ∷ keys_from (k +ℤ pos 1) n
-
--- the keys of an alphabet, ascending
-unfoldable pub keys_of : Alphabet → List ℤ
-keys_of alphabet = keys_from (least_key alphabet) (int_gap (least_key alphabet) (greatest_key alphabet) + 1)
 
 -- which of the sets hold the key
 abbrev pub held_in : List (List Range) → ℤ → List Bool

@@ -1,5 +1,5 @@
 use Rattle.std.proofs.Common.{refl}
-use Rattle.rl_automata.specs.Refused.{keys_of}
+use Rattle.rl_types.specs.Alphabet.{keys_of}
 use Rattle.rl_automata.proofs.CycleRow.{circle}
 use Rattle.rl_automata.proofs.rows.refused_nodes.Goals as goal
 
