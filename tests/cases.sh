@@ -4,8 +4,8 @@
 #   tests/cases.sh [GROUP ..]
 #
 # The groups that are built whole, 01-one-literal, 01-several-literals, 04-operators, 05-actions and 06-priorities, are run by
-# check.py of the cases, and have to pass. Of each other group (03-names, 07-state-actions, 11-sessions, 13-sections) every case
-# is run. One that gives what it must is good. One that does not is
+# check.py of the cases where it is there, and have to pass. Of each other group (03-names, 07-state-actions, 11-sessions, 13-sections,
+# 13-sections-2, 15-wide) every case is run. One that gives what it must is good. One that does not is
 #   not built   where it is refused with F20, and `when`, a scanner or a word of action code that steers the run stands in its
 #               source, or in a file that it includes: these are named, with what was found there
 #   wrong       else: these are named, with their first line on the error output or of the output
@@ -56,9 +56,9 @@ if [ $# -eq 0 ]; then
   if command -v python3 >/dev/null 2>&1 && [ -f "$cases/check.py" ]; then
     python3 "$cases/check.py" --run "$program" "${whole[@]}" || wrong=1
   else
-    say "no check.py beside the cases, or no python3: the groups that are built whole are skipped"
+    set -- "${whole[@]}"
   fi
-  set -- 03-names 07-state-actions 11-sessions 13-sections
+  set -- "$@" 03-names 07-state-actions 11-sessions 13-sections 13-sections-2 15-wide
 fi
 for group; do
   if [ -d "$cases/$group" ]; then run_group "$group"; else say "no group $group: skipped"; fi

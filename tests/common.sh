@@ -35,8 +35,14 @@ first_line() {
 # `err` and `status` are what it must give; the files that belong to no program (`c.words`, `m.c`, ..) aside, every other file
 # is there when it runs.
 
-# Skips all where there are no cases.
-find_cases() { [ -d "$cases" ] || skip "no cases beside the checkout"; }
+# Finds the cases beside the checkout, or else lays out the fewer ones that tests/data has.
+find_cases() {
+  [ -d "$cases" ] && return
+  command -v python3 >/dev/null 2>&1 || skip "no cases beside the checkout, and no python3 to lay out those of tests/data"
+  say "no cases beside the checkout: those of tests/data are taken"
+  cases=$work/cases
+  python3 "$top/tests/unpack.py" "$cases" || skip "the cases of tests/data could not be laid out"
+}
 
 # Whether a folder is a case for this program.
 is_case() { [ -f "$1/words" ] && [ -f "$1/out" ] && [ -f "$1/err" ] && [ -f "$1/status" ]; }

@@ -191,9 +191,6 @@ quoted_is_leaf text begins starts = record {
 abbrev pub unsigned_begins : Class → Bool
 unsigned_begins c = same_kind c.kind k.Name && c.unsigned
 
-abbrev pub char_begins : Class → Bool
-char_begins c = same_kind c.kind k.Name && not c.unsigned
-
 abbrev pub unsigned_part : Part Place
 unsigned_part = single r.place_of (quoted_leaf (codes "unsigned")) always unsigned_begins (some_token k.Name (codes "unsigned"))
 
@@ -202,15 +199,6 @@ unfolding same_kind
 good_unsigned d e =
     g.good_single (r.is_word (codes "unsigned")) r.place_of (quoted_leaf (codes "unsigned")) always unsigned_begins (some_token k.Name (codes "unsigned"))
     (quoted_is_leaf (codes "unsigned") unsigned_begins (λ a. refl)) refl (excluded unsigned_begins is_end refl) d e
-
-abbrev pub char_part : Part Place
-char_part = single r.place_of (quoted_leaf (codes "char")) always char_begins (some_token k.Name (codes "char"))
-
-pub good_char : (d e : ℕ) → Good char_part d e (r.quoted (codes "char")) (r.quoted (codes "char"))
-unfolding same_kind
-good_char d e =
-    g.good_single (r.is_word (codes "char")) r.place_of (quoted_leaf (codes "char")) always char_begins (some_token k.Name (codes "char"))
-    (quoted_is_leaf (codes "char") char_begins (λ a. refl)) refl (excluded char_begins is_end refl) d e
 
 -- ---- signs that are told by their kind
 

@@ -1,6 +1,6 @@
 -- Statements and blocks.
-use Rattle.std.proofs.Common.{◌≡◌, ℕ, suc, Bool, true, false, List, [], ◌∷◌, Option, Some, None, ◌⊎◌, inl, inr, refl, ap, ◌∙◌, codes, bytes_eq}
-use Rattle.std.specs.Prelude.{◌&&◌, ◌||◌, if◌then◌else◌}
+use Rattle.std.proofs.Common.{◌≡◌, ℕ, suc, Bool, true, false, List, [], ◌∷◌, Option, Some, None, ◌⊎◌, inl, inr, refl, sym, ap, ◌∙◌, codes, bytes_eq}
+use Rattle.std.specs.Prelude.{◌&&◌, ◌||◌, not, if◌then◌else◌}
 use Rattle.std.specs.List.{flat_map}
 use Rattle.std.proofs.lemmas.Bool.{cases_Bool}
 use Rattle.rl_readers.proofs.Good as good
@@ -20,6 +20,8 @@ use Rattle.rl_grammar.specs.declared.syntax.Alphtype.{Alphtype}
 use Rattle.rl_grammar.specs.declared.syntax.Access.{Access}
 use Rattle.rl_grammar.specs.declared.syntax.Variable.{Variable}
 use Rattle.rl_grammar.specs.declared.syntax.Write.{Write}
+use Rattle.rl_grammar.specs.declared.syntax.AlphabetWord.{AlphabetWord}
+use Rattle.rl_grammar.specs.declared.syntax.AlphabetWord.TheVariants as alphabet
 use Rattle.rl_grammar.specs.declared.syntax.WriteKind.{WriteKind}
 use Rattle.rl_grammar.specs.declared.syntax.WriteKind.TheVariants as written
 use Rattle.rl_grammar.specs.declared.syntax.WriteOption.{WriteOption}
@@ -28,12 +30,12 @@ use Rattle.rl_grammar.specs.declared.syntax.Action.{Action}
 use Rattle.rl_grammar.specs.declared.syntax.Definition.{Definition}
 use Rattle.rl_grammar.specs.declared.syntax.DefinitionSign.{DefinitionSign}
 use Rattle.rl_grammar.specs.declared.syntax.Union.{Union}
-use Rattle.rl_parse.specs.Classes.{Class, tokens}
+use Rattle.rl_parse.specs.Classes.{Class, class_of, tokens}
 use Rattle.rl_parse.specs.Reading.{Reader}
 use Rattle.rl_parse.specs.Rules as r
 use Rattle.rl_parse.proofs.AllKinds.{excluded, implied}
 use Rattle.rl_parse.proofs.Nodes.{Part, Good, is_end, by, is, always, none, seq, choice, maybe, list_of, Shape, IsNode, node, node_good, Words, begun, named, named_good, and_true}
-use Rattle.rl_parse.proofs.Leaves.{some_token, single, place_part, place_leaf, word_part, good_word, variable_name_part, good_variable_name, unsigned_part, unsigned_begins, good_unsigned, char_part, good_char, quoted_leaf, quoted_seen, good_picked}
+use Rattle.rl_parse.proofs.Leaves.{some_token, single, place_part, place_leaf, word_part, good_word, variable_name_part, good_variable_name, unsigned_part, unsigned_begins, good_unsigned, quoted_leaf, quoted_seen, good_picked}
 use Rattle.rl_parse.proofs.PartLaws as p
 use Rattle.rl_parse.proofs.ExpressionLaws.{union_atom, whole_good}
 
@@ -93,6 +95,86 @@ unsigned_good d e = named_good unsigned_words (maybe unsigned_part) (record { te
 abbrev seen_word : List ℕ → Lexeme → Bool
 seen_word text l = same_kind l.kind k.Name && bytes_eq l.text text
 
+-- one of three words
+module _ {A : Type 0} (a b c : List ℕ) (x y z : Place → A) (leaf : A → Lexeme) where
+  one_of_three : ((at : Place) → leaf (x at) ≡ quoted_leaf a at) → ((at : Place) → leaf (y at) ≡ quoted_leaf b at)
+      → ((at : Place) → leaf (z at) ≡ quoted_leaf c at) → (t : Token) (v : A)
+      → (if r.is_word a t then Some (x t.place) else if r.is_word b t then Some (y t.place) else if r.is_word c t then Some (z t.place) else None) ≡ Some v
+      → lexeme t ≡ leaf v
+  one_of_three xs ys zs t v e = elim (cases_Bool (r.is_word a t)) [
+    | inl h0 ↦
+        let is : ◌≡◌ {A = Option A} (Some (x t.place)) (Some v) = rw (h0) at e in
+        let one : x t.place ≡ v = cc in
+        quoted_seen a t h0 ∙ (sym (xs t.place) ∙ ap leaf one)
+    | inr h0 ↦ elim (cases_Bool (r.is_word b t)) [
+      | inl h1 ↦
+          let is : ◌≡◌ {A = Option A} (Some (y t.place)) (Some v) = rw (h0, h1) at e in
+          let one : y t.place ≡ v = cc in
+          quoted_seen b t h1 ∙ (sym (ys t.place) ∙ ap leaf one)
+      | inr h1 ↦ elim (cases_Bool (r.is_word c t)) [
+        | inl h2 ↦
+            let is : ◌≡◌ {A = Option A} (Some (z t.place)) (Some v) = rw (h0, h1, h2) at e in
+            let one : z t.place ≡ v = cc in
+            quoted_seen c t h2 ∙ (sym (zs t.place) ∙ ap leaf one)
+        | inr h2 ↦ (let no : ◌≡◌ {A = Option A} None (Some v) = rw (h0, h1, h2) at e in cc (no))
+      ]
+    ]
+  ]
+
+abbrev alphabet_word_leaf : AlphabetWord → Lexeme
+alphabet_word_leaf (alphabet.Char place) = quoted_leaf (codes "char") place
+alphabet_word_leaf (alphabet.Short place) = quoted_leaf (codes "short") place
+alphabet_word_leaf (alphabet.Int place) = quoted_leaf (codes "int") place
+
+abbrev seen_alphabet_word : Lexeme → Option AlphabetWord
+seen_alphabet_word l =
+    if seen_word (codes "char") l then Some (alphabet.Char l.place)
+    else if seen_word (codes "short") l then Some (alphabet.Short l.place)
+    else if seen_word (codes "int") l then Some (alphabet.Int l.place)
+    else None
+
+alphabet_word_gives : (t : Token) (a : AlphabetWord) → r.known_alphabet_word t ≡ Some a → lexeme t ≡ alphabet_word_leaf a
+alphabet_word_gives t a e =
+    one_of_three (codes "char") (codes "short") (codes "int") (λ at. alphabet.Char at) (λ at. alphabet.Short at) (λ at. alphabet.Int at) alphabet_word_leaf
+    (λ at. refl) (λ at. refl) (λ at. refl) t a e
+
+alphabet_word_back : (t : Token) (a : AlphabetWord) → lexeme t ≡ alphabet_word_leaf a → r.known_alphabet_word t ≡ Some a
+unfolding same_kind
+alphabet_word_back t (alphabet.Char place) e = ap seen_alphabet_word e
+alphabet_word_back t (alphabet.Short place) e = ap seen_alphabet_word e
+alphabet_word_back t (alphabet.Int place) e = ap seen_alphabet_word e
+
+alphabet_word_told : (a : AlphabetWord) → g.alphabet_word_text a ≡ alphabet_word_leaf a ∷ []
+alphabet_word_told (alphabet.Char place) = refl
+alphabet_word_told (alphabet.Short place) = refl
+alphabet_word_told (alphabet.Int place) = refl
+
+abbrev alphabet_word_begins : Class → Bool
+alphabet_word_begins c = same_kind c.kind k.Name && not c.unsigned
+
+alphabet_word_begun : (a : AlphabetWord) → alphabet_word_begins (class_of (alphabet_word_leaf a)) ≡ true
+unfolding same_kind
+alphabet_word_begun (alphabet.Char place) = refl
+alphabet_word_begun (alphabet.Short place) = refl
+alphabet_word_begun (alphabet.Int place) = refl
+
+abbrev alphabet_word_words : Words AlphabetWord
+alphabet_word_words = record { spell = g.alphabet_word_text; fits = always; begins = alphabet_word_begins; may = none }
+
+abbrev alphabet_word_part : Part AlphabetWord
+alphabet_word_part =
+    single (λ t. r.value_or (r.known_alphabet_word t) (alphabet.Char t.place)) alphabet_word_leaf always alphabet_word_begins (some_token k.Name (codes "char"))
+
+abbrev alphabet_word_p : Part AlphabetWord
+alphabet_word_p = named alphabet_word_words alphabet_word_part
+
+alphabet_word_good : (d e : ℕ) → Good alphabet_word_p d e r.alphabet_word r.alphabet_word
+unfolding same_kind
+alphabet_word_good d e =
+    named_good alphabet_word_words alphabet_word_part (record { texts = alphabet_word_told; tests = λ a. refl; wider = refl; longer = refl }) d e
+    (good_picked r.known_alphabet_word (λ t. alphabet.Char t.place) alphabet_word_leaf alphabet_word_begins alphabet_word_gives alphabet_word_back
+    alphabet_word_begun (some_token k.Name (codes "char")) refl (excluded alphabet_word_begins is_end refl) d e)
+
 abbrev write_kind_leaf : WriteKind → Lexeme
 write_kind_leaf (written.Data place) = quoted_leaf (codes "data") place
 write_kind_leaf (written.Init place) = quoted_leaf (codes "init") place
@@ -106,25 +188,9 @@ seen_write_kind l =
     else None
 
 write_kind_gives : (t : Token) (a : WriteKind) → r.known_write_kind t ≡ Some a → lexeme t ≡ write_kind_leaf a
-write_kind_gives t a e = elim (cases_Bool (r.is_word (codes "data") t)) [
-  | inl h0 ↦
-      let is : ◌≡◌ {A = Option WriteKind} (Some (written.Data t.place)) (Some a) = rw (h0) at e in
-      let one : written.Data t.place ≡ a = cc in
-      quoted_seen (codes "data") t h0 ∙ ap write_kind_leaf one
-  | inr h0 ↦ elim (cases_Bool (r.is_word (codes "init") t)) [
-    | inl h1 ↦
-        let is : ◌≡◌ {A = Option WriteKind} (Some (written.Init t.place)) (Some a) = rw (h0, h1) at e in
-        let one : written.Init t.place ≡ a = cc in
-        quoted_seen (codes "init") t h1 ∙ ap write_kind_leaf one
-    | inr h1 ↦ elim (cases_Bool (r.is_word (codes "exec") t)) [
-      | inl h2 ↦
-          let is : ◌≡◌ {A = Option WriteKind} (Some (written.Exec t.place)) (Some a) = rw (h0, h1, h2) at e in
-          let one : written.Exec t.place ≡ a = cc in
-          quoted_seen (codes "exec") t h2 ∙ ap write_kind_leaf one
-      | inr h2 ↦ (let no : ◌≡◌ {A = Option WriteKind} None (Some a) = rw (h0, h1, h2) at e in cc (no))
-    ]
-  ]
-]
+write_kind_gives t a e =
+    one_of_three (codes "data") (codes "init") (codes "exec") (λ at. written.Data at) (λ at. written.Init at) (λ at. written.Exec at) write_kind_leaf
+    (λ at. refl) (λ at. refl) (λ at. refl) t a e
 
 write_kind_back : (t : Token) (a : WriteKind) → lexeme t ≡ write_kind_leaf a → r.known_write_kind t ≡ Some a
 unfolding same_kind
@@ -270,11 +336,11 @@ unfolding r.inclusion same_kind
 inclusion_good d e = node_good inclusion_shape inclusion_parts inclusion_shaped d e
     (good.good_seq (place_part k.Include) (seq optional_name_p (seq literal_p (place_part k.Semicolon))) d e (p.at_Include d e) (good.good_seq optional_name_p (seq literal_p (place_part k.Semicolon)) d e (optional_name_good d e) (good.good_seq literal_p (place_part k.Semicolon) d e (literal_good d e) (p.at_Semicolon d e) (excluded (place_part k.Semicolon).begins literal_p.may refl)) (excluded (seq literal_p (place_part k.Semicolon)).begins optional_name_p.may refl)) (excluded (seq optional_name_p (seq literal_p (place_part k.Semicolon))).begins (place_part k.Include).may refl))
 
-abbrev alphtype_parts : Part (Place × (Option Place × (Place × Place)))
-alphtype_parts = seq (place_part k.Alphtype) (seq unsigned_p (seq char_part (place_part k.Semicolon)))
+abbrev alphtype_parts : Part (Place × (Option Place × (AlphabetWord × Place)))
+alphtype_parts = seq (place_part k.Alphtype) (seq unsigned_p (seq alphabet_word_p (place_part k.Semicolon)))
 
-abbrev alphtype_shape : Shape (Place × (Option Place × (Place × Place))) Alphtype
-alphtype_shape = record { to = r.alphtype_of; back = λ c. (c.start, (c.unsigned, (c.name, c.semicolon))); spell = g.alphtype_text; fits = always; begins = is k.Alphtype; may = none }
+abbrev alphtype_shape : Shape (Place × (Option Place × (AlphabetWord × Place))) Alphtype
+alphtype_shape = record { to = r.alphtype_of; back = λ c. (c.start, (c.unsigned, (c.word, c.semicolon))); spell = g.alphtype_text; fits = always; begins = is k.Alphtype; may = none }
 
 alphtype_shaped : IsNode alphtype_shape alphtype_parts
 unfolding same_kind
@@ -286,7 +352,11 @@ alphtype_p = node alphtype_shape alphtype_parts
 pub alphtype_good : (d e : ℕ) → Good alphtype_p d e r.alphtype r.alphtype
 unfolding r.alphtype same_kind
 alphtype_good d e = node_good alphtype_shape alphtype_parts alphtype_shaped d e
-    (good.good_seq (place_part k.Alphtype) (seq unsigned_p (seq char_part (place_part k.Semicolon))) d e (p.at_Alphtype d e) (good.good_seq unsigned_p (seq char_part (place_part k.Semicolon)) d e (unsigned_good d e) (good.good_seq char_part (place_part k.Semicolon) d e (good_char d e) (p.at_Semicolon d e) (excluded (place_part k.Semicolon).begins char_part.may refl)) (excluded (seq char_part (place_part k.Semicolon)).begins unsigned_p.may refl)) (excluded (seq unsigned_p (seq char_part (place_part k.Semicolon))).begins (place_part k.Alphtype).may refl))
+    (good.good_seq (place_part k.Alphtype) (seq unsigned_p (seq alphabet_word_p (place_part k.Semicolon))) d e (p.at_Alphtype d e)
+    (good.good_seq unsigned_p (seq alphabet_word_p (place_part k.Semicolon)) d e (unsigned_good d e)
+    (good.good_seq alphabet_word_p (place_part k.Semicolon) d e (alphabet_word_good d e) (p.at_Semicolon d e) (excluded (place_part k.Semicolon).begins alphabet_word_p.may refl))
+    (excluded (seq alphabet_word_p (place_part k.Semicolon)).begins unsigned_p.may refl))
+    (excluded (seq unsigned_p (seq alphabet_word_p (place_part k.Semicolon))).begins (place_part k.Alphtype).may refl))
 
 abbrev access_parts : Part (Place × (Word × Place))
 access_parts = seq (place_part k.Access) (seq text_p (place_part k.Semicolon))

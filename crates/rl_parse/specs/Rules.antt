@@ -21,6 +21,8 @@ use Rattle.rl_grammar.specs.declared.syntax.Alphtype.{Alphtype}
 use Rattle.rl_grammar.specs.declared.syntax.Access.{Access}
 use Rattle.rl_grammar.specs.declared.syntax.Variable.{Variable}
 use Rattle.rl_grammar.specs.declared.syntax.Write.{Write}
+use Rattle.rl_grammar.specs.declared.syntax.AlphabetWord.{AlphabetWord}
+use Rattle.rl_grammar.specs.declared.syntax.AlphabetWord.TheVariants as alphabet
 use Rattle.rl_grammar.specs.declared.syntax.WriteKind.{WriteKind}
 use Rattle.rl_grammar.specs.declared.syntax.WriteKind.TheVariants as written
 use Rattle.rl_grammar.specs.declared.syntax.WriteOption.{WriteOption}
@@ -244,6 +246,16 @@ value_or (Some b) a = b
 -- one token that stands for a value; the second function gives a value of no meaning for the others
 abbrev pub picked : {A : Type 0} → (Token → Option A) → (Token → A) → Reader A
 picked known other = one (λ t. is_known (known t)) (λ t. value_or (known t) (other t))
+
+abbrev pub known_alphabet_word : Token → Option AlphabetWord
+known_alphabet_word t =
+    if is_word (codes "char") t then Some (alphabet.Char t.place)
+    else if is_word (codes "short") t then Some (alphabet.Short t.place)
+    else if is_word (codes "int") t then Some (alphabet.Int t.place)
+    else None
+
+abbrev pub alphabet_word : Reader AlphabetWord
+alphabet_word = picked known_alphabet_word (λ t. alphabet.Char t.place)
 
 abbrev pub known_write_kind : Token → Option WriteKind
 known_write_kind t =
@@ -598,11 +610,11 @@ inclusion = made include_of (both (place k.Include) (both optional_name (both (w
 unfoldable pub unsigned : Reader (Option Place)
 unsigned = optional is_unsigned (quoted (codes "unsigned"))
 
-abbrev pub alphtype_of : Place × (Option Place × (Place × Place)) → Alphtype
-alphtype_of x = record { start = x.0; unsigned = x.1.0; name = x.1.1.0; semicolon = x.1.1.1 }
+abbrev pub alphtype_of : Place × (Option Place × (AlphabetWord × Place)) → Alphtype
+alphtype_of x = record { start = x.0; unsigned = x.1.0; word = x.1.1.0; semicolon = x.1.1.1 }
 
 unfoldable pub alphtype : Reader Alphtype
-alphtype = made alphtype_of (both (place k.Alphtype) (both unsigned (both (quoted (codes "char")) (place k.Semicolon))))
+alphtype = made alphtype_of (both (place k.Alphtype) (both unsigned (both alphabet_word (place k.Semicolon))))
 
 abbrev pub access_of : Place × (Word × Place) → Access
 access_of x = record { start = x.0; text = x.1.0; semicolon = x.1.1 }

@@ -6,7 +6,7 @@ ghost use Rattle.rl_parse.specs.Rules as rules;
 use crate::expressions::union;
 use crate::signs::{begins_statement, begins_with, definition_sign, is_name, kind_of, place, word};
 use crate::stop::Stop;
-use crate::words::{quoted, unsigned, variable_name, write_kind, write_option};
+use crate::words::{alphabet_word, unsigned, variable_name, write_kind, write_option};
 use rl_grammar::syntax::{
     Access, Action, Alphtype, Definition, Include, Machine, Statement, Syntax, Variable, Word,
     Write, WriteOption,
@@ -69,13 +69,13 @@ fn alphtype(tokens: &[Token]) -> Result<(Alphtype, &[Token]), Stop>
 {
     let (start, rest) = place(tokens, TokenKind::Alphtype)?;
     let (unsigned, rest) = unsigned(rest)?;
-    let (name, rest) = quoted(rest, b"char")?;
+    let (word, rest) = alphabet_word(rest)?;
     let (semicolon, rest) = place(rest, TokenKind::Semicolon)?;
     Ok((
         Alphtype {
             start,
             unsigned,
-            name,
+            word,
             semicolon,
         },
         rest,

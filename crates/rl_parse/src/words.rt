@@ -11,7 +11,9 @@ ghost use Rattle.rl_parse.specs.Rules.{count_of, slash_after};
 ghost use Rattle.rl_parse.specs.declared.stop.Stop.TheVariants.{Memory};
 
 use crate::stop::Stop;
-use rl_grammar::syntax::{Mark, Number, StateClass, StateKind, Word, WriteKind, WriteOption};
+use rl_grammar::syntax::{
+    AlphabetWord, Mark, Number, StateClass, StateKind, Word, WriteKind, WriteOption,
+};
 use rl_grammar::{Token, TokenKind};
 use rl_types::{List, Place};
 use std::alloc::Global;
@@ -37,16 +39,6 @@ fn is_word(token: &Token, text: &[u8]) -> bool
     token.kind.is(TokenKind::Name) && same_text(token.text.as_slice(), text)
 }
 
-/// The place of this word.
-pub fn quoted<'a>(tokens: &'a [Token], text: &[u8]) -> Result<(Place, &'a [Token]), Stop>
-    ensures { Gives (λ x. (x.0, x.1.now)) result (rules.quoted text.now tokens.now) }
-{
-    match tokens {
-        [first, rest @ ..] if is_word(first, text) => Ok((first.place, rest)),
-        _ => Err(Stop::At(tokens.len())),
-    }
-}
-
 /// The place of the word `unsigned`, where it stands.
 #[tactic(auto, unfolding(crate::specs::Rules::unsigned))]
 pub fn unsigned(tokens: &[Token]) -> Result<(Option<Place>, &[Token]), Stop>
@@ -56,6 +48,31 @@ pub fn unsigned(tokens: &[Token]) -> Result<(Option<Place>, &[Token]), Stop>
         [first, rest @ ..] if is_word(first, b"unsigned") => Ok((Some(first.place), rest)),
         _ => Ok((None, tokens)),
     }
+}
+
+fn alphabet_word_of(token: &Token) -> Option<AlphabetWord>
+    ensures { result ≡ rules.known_alphabet_word token.now }
+{
+    if is_word(token, b"char") {
+        Some(AlphabetWord::Char(token.place))
+    } else if is_word(token, b"short") {
+        Some(AlphabetWord::Short(token.place))
+    } else if is_word(token, b"int") {
+        Some(AlphabetWord::Int(token.place))
+    } else {
+        None
+    }
+}
+
+pub fn alphabet_word(tokens: &[Token]) -> Result<(AlphabetWord, &[Token]), Stop>
+    ensures { Gives (λ x. (x.0, x.1.now)) result (rules.alphabet_word tokens.now) }
+{
+    if let [first, rest @ ..] = tokens {
+        if let Some(word) = alphabet_word_of(first) {
+            return Ok((word, rest));
+        }
+    }
+    Err(Stop::At(tokens.len()))
 }
 
 fn write_kind_of(token: &Token) -> Option<WriteKind>

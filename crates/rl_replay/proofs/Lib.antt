@@ -4,6 +4,4 @@ pub mod Grows
 pub mod Whole
 pub mod Twins
 pub mod LineTexts
-pub mod Forms
-pub mod FirstScripts
 pub mod OwnPicks

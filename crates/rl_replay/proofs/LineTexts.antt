@@ -1,5 +1,5 @@
 -- The first line of a text.
-use Rattle.std.proofs.Common.{◌≡◌, ℕ, ◌+◌, ◌<◌, ◌≤◌, Bool, true, false, cond, List, [], ◌∷◌, length, take, drop, Option, Some, None, position, refl, sym, ◌∙◌, ap, subst, arith, nat_lt, ◌==◌}
+use Rattle.std.proofs.Common.{◌≡◌, ℕ, ◌+◌, ◌<◌, ◌≤◌, Bool, true, false, cond, List, [], ◌∷◌, length, take, drop, Some, None, position, refl, sym, ◌∙◌, ap, subst, arith, nat_lt, ◌==◌}
 use Rattle.std.proofs.lemmas.Bool.Decides.{nat_tests}
 use Rattle.std.proofs.lemmas.List.Splits.{slice_split_none, slice_split_first}
 use Rattle.std.proofs.lemmas.List.Sums.{fails_before_first}
@@ -56,10 +56,3 @@ lines_all text e h = ap without_last_empty (slice_split_none ends text (λ k d b
     only : (text : List ℕ) → 0 < length text → without_last_empty (text ∷ []) ≡ text ∷ []
     only [] h = absurd (omega arith)
     only (b ∷ text) h = refl
-
-pub some_line : (text : List ℕ) → 0 < length text → (line : List ℕ) × (rest : List (List ℕ)) × (lines_of text ≡ line ∷ rest)
-some_line text h = go (position ends text) refl
-  where
-    go : (o : Option ℕ) → position ends text ≡ o → (line : List ℕ) × (rest : List (List ℕ)) × (lines_of text ≡ line ∷ rest)
-    go (Some end) e = (take end text, lines_of (drop (end + 1) text), (lines_at text end e).1)
-    go None e = (text, [], lines_all text e h)

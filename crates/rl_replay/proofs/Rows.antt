@@ -1,11 +1,12 @@
 -- Scripts, and what is written for them, computed.
 use Rattle.std.proofs.Common.{◌≡◌, ℕ, true, false, cond, pos, negsuc, [], ◌∷◌, Option, Some, None, Ok, Err, refl, nat_eq, ◌&&◌, codes}
 use Rattle.std.specs.Fmt.{digits}
+use Rattle.rl_types.specs.Alphabet.{characters}
 use Rattle.rl_run.specs.declared.statements.Statement.{Statement}
 use Rattle.rl_run.specs.declared.statements.StatementKind.TheVariants as statements
 use Rattle.rl_run.specs.declared.statements.GoalBase.TheVariants as bases
 use Rattle.rl_run.specs.Machine.{Machine}
-use Rattle.rl_run.specs.Run.{turns, at_letter, after, ending, at_kept, last_list, last_delivery}
+use Rattle.rl_run.specs.Run.{turns, at_letter, at_end, after, ending, at_kept, last_list, last_delivery}
 use Rattle.rl_run.specs.Turn.{if_goes, deliver, marked, stepped, failed, missed, chosen, if_heard, sought, finished, body, turn}
 use Rattle.rl_run.specs.Chain.{run_on}
 use Rattle.rl_run.specs.Fine.{weight, tail_weight}
@@ -14,7 +15,7 @@ use Rattle.rl_replay.specs.declared.script.ScriptFault.TheVariants.{NoName}
 use Rattle.rl_replay.specs.Script.{event_of, read_script}
 use Rattle.rl_replay.specs.Sessions.{script_of}
 use Rattle.rl_replay.specs.Host.{statements_from, statements_of}
-use Rattle.rl_replay.specs.ScriptRows.{names, same_key, ab, replay, AreThreeLines, IsNoLine, IsNotOpen, IsOpenedTwice, IsNoEntry, EachCallHasItsLine, StopsForGood, LeftAreTold, SessionsTakeTurns, SecondCallIsPicked, NoSuchStatement}
+use Rattle.rl_replay.specs.ScriptRows.{names, same_key, ab, replay, AreThreeLines, IsNoLine, IsNotOpen, IsOpenedTwice, IsNoEntry, EachCallHasItsLine, StopsForGood, LeftAreTold, SessionsTakeTurns, SecondCallIsPicked, NoSuchStatement, HalfACharacter, ACharacterIsCut}
 
 -- a script of three lines
 pub three_lines : AreThreeLines
@@ -68,32 +69,49 @@ unfolding digits
 no_action = refl
 
 pub each_call : EachCallHasItsLine
-unfolding statements_from statements_of digits run_on weight tail_weight turns at_letter after ending at_kept last_list last_delivery if_goes deliver marked stepped failed missed chosen if_heard sought finished body turn
+unfolding characters statements_from statements_of digits run_on weight tail_weight turns at_letter at_end after ending
+    at_kept last_list last_delivery if_goes deliver marked stepped failed missed chosen if_heard sought finished body turn
 each_call = refl
 
 pub stopped : StopsForGood
-unfolding statements_from statements_of digits run_on weight tail_weight turns at_letter after ending at_kept last_list last_delivery if_goes deliver marked stepped failed missed chosen if_heard sought finished body turn
+unfolding characters statements_from statements_of digits run_on weight tail_weight turns at_letter at_end after ending
+    at_kept last_list last_delivery if_goes deliver marked stepped failed missed chosen if_heard sought finished body turn
 stopped = refl
 
 pub left_behind : LeftAreTold
-unfolding statements_from statements_of digits run_on weight tail_weight turns at_letter after ending at_kept last_list last_delivery if_goes deliver marked stepped failed missed chosen if_heard sought finished body turn
+unfolding characters statements_from statements_of digits run_on weight tail_weight turns at_letter at_end after ending
+    at_kept last_list last_delivery if_goes deliver marked stepped failed missed chosen if_heard sought finished body turn
 left_behind = refl
 
 pub interleaved : SessionsTakeTurns
-unfolding statements_from statements_of digits run_on weight tail_weight turns at_letter after ending at_kept last_list last_delivery if_goes deliver marked stepped failed missed chosen if_heard sought finished body turn
+unfolding characters statements_from statements_of digits run_on weight tail_weight turns at_letter at_end after ending
+    at_kept last_list last_delivery if_goes deliver marked stepped failed missed chosen if_heard sought finished body turn
 interleaved = refl
 
 pub second_call_picked : SecondCallIsPicked
-unfolding statements_from statements_of digits run_on weight tail_weight turns at_letter after ending at_kept last_list last_delivery if_goes deliver marked stepped failed missed chosen if_heard sought finished body turn
+unfolding characters statements_from statements_of digits run_on weight tail_weight turns at_letter at_end after ending
+    at_kept last_list last_delivery if_goes deliver marked stepped failed missed chosen if_heard sought finished body turn
 second_call_picked = refl
 
 pub no_such_statement : NoSuchStatement
-unfolding statements_from statements_of digits run_on weight tail_weight turns at_letter after ending at_kept last_list last_delivery if_goes deliver marked stepped failed missed chosen if_heard sought finished body turn
+unfolding characters statements_from statements_of digits run_on weight tail_weight turns at_letter at_end after ending
+    at_kept last_list last_delivery if_goes deliver marked stepped failed missed chosen if_heard sought finished body turn
 no_such_statement = refl
+
+pub half_a_character : HalfACharacter
+unfolding characters statements_from statements_of digits run_on weight tail_weight turns at_letter at_end after ending
+    at_kept last_list last_delivery if_goes deliver marked stepped failed missed chosen if_heard sought finished body turn
+half_a_character = refl
+
+pub cut_character : ACharacterIsCut
+unfolding characters statements_from statements_of digits run_on weight tail_weight turns at_letter at_end after ending
+    at_kept last_list last_delivery if_goes deliver marked stepped failed missed chosen if_heard sought finished body turn
+cut_character = refl
 
 -- a scanner of one pattern, with an action in every list, under a condition
 abbrev scanner : Machine ℕ
 scanner = record {
+  width = 1;
   key_of = λ byte. record { 0 = pos byte };
   asked = λ state key. cond (nat_eq state 1) 1 0;
   find = λ state key hold. cond (nat_eq state 1 && same_key key 97 && nat_eq hold 1) (Some (record { target = 2; list = 1 ∷ [] })) None;
@@ -115,11 +133,13 @@ scanner = record {
 }
 
 all_kinds : replay scanner (codes "say s c 1 yes\nopen s\npiece s \"a\"\nend s") ≡ codes "s from x 0\ns ask c 0 yes\ns do x 0\ns token x 0 0 1\ns to x 0\ns eof x 1\ns end final 1\n"
-unfolding statements_from statements_of digits run_on weight tail_weight turns at_letter after ending at_kept last_list last_delivery if_goes deliver marked stepped failed missed chosen if_heard sought finished body turn
+unfolding characters statements_from statements_of digits run_on weight tail_weight turns at_letter at_end after ending
+    at_kept last_list last_delivery if_goes deliver marked stepped failed missed chosen if_heard sought finished body turn
 all_kinds = refl
 
 told_no : replay scanner (codes "say s c 2 yes\nopen s\npiece s \"a\"\nend s") ≡ codes "s from x 0\ns ask c 0 no\ns stop error 0\ns end error 0\n"
-unfolding statements_from statements_of digits run_on weight tail_weight turns at_letter after ending at_kept last_list last_delivery if_goes deliver marked stepped failed missed chosen if_heard sought finished body turn
+unfolding characters statements_from statements_of digits run_on weight tail_weight turns at_letter at_end after ending
+    at_kept last_list last_delivery if_goes deliver marked stepped failed missed chosen if_heard sought finished body turn
 told_no = refl
 
 -- an action that executes behind the character, goes to the entry, and would hold
@@ -133,5 +153,6 @@ abbrev jumping : Machine ℕ
 jumping = record ab { statement = λ a n. jump n }
 
 picked_by_itself : replay jumping (codes "open s\npiece s \"aa\"\nend s\npick s x 2 -") ≡ codes "s do x 0 exec 1 goto main\ns do x 1\ns end partial 2\n"
-unfolding statements_from statements_of digits run_on weight tail_weight turns at_letter after ending at_kept last_list last_delivery if_goes deliver marked stepped failed missed chosen if_heard sought finished body turn
+unfolding characters statements_from statements_of digits run_on weight tail_weight turns at_letter at_end after ending
+    at_kept last_list last_delivery if_goes deliver marked stepped failed missed chosen if_heard sought finished body turn
 picked_by_itself = refl

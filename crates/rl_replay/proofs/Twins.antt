@@ -27,7 +27,7 @@ use Rattle.rl_replay.specs.declared.script.Line.{Line}
 use Rattle.rl_replay.specs.Sessions.{Names, session_of, only, is_opened, live}
 use Rattle.rl_replay.specs.Host.{given_picks, given_answer, is_ask, times, statements_from, statements_of, picks_among, own_picks, picks_answer, yes_no, answer_to, host}
 use Rattle.rl_replay.specs.Lines.{line_of, call_words, pick_word, pick_words, answer_words, picks_in, call_line, calls_lines, session_run, stop_lines, stop_line, end_line, left_line, run_lines}
-use Rattle.rl_replay.specs.Written.{texts, entry_of, input_of, session_lines, left_part, added, parts_from, left, written}
+use Rattle.rl_replay.specs.Written.{Part, texts, entry_of, input_of, session_lines, left_part, added, parts_from, left, written}
 
 count_same : {A B : Type 0} (R : A → B → Type 0) (p : A → Bool) (q : B → Bool) → ((a : A) (b : B) → R a b → q b ≡ p a) →
     (n : ℕ) (xs : List A) (ys : List B) → AllZip R xs ys → fold (λ k y. k + cond (q y) 1 0) n ys ≡ fold (λ k x. k + cond (p x) 1 0) n xs
@@ -182,7 +182,7 @@ module _ {S T : Type 0} (m : Machine S) (w : Machine T) (ρ : ℕ → ℕ) where
     told_of outcome next is_closed verdict =
         (elim outcome as (λ _. List ℕ) [ Some (Stopped cause) ↦ stop_line s cause next | _ ↦ [] ]) ++ cond is_closed (end_line s verdict next) []
 
-    ends_same : (a : Rest S) (b : Rest T) → EndsAlike m w ρ a b → (is_closed : Bool) →
+    ends_same : (a : Rest S) (b : Rest T) → EndsAlike m w ρ R a b → (is_closed : Bool) →
         told_of b.outcome b.session.next is_closed (verdict_of w b) ≡ told_of a.outcome a.session.next is_closed (verdict_of m a)
     ends_same a b h is_closed =
         ap (λ o. told_of o b.session.next is_closed (verdict_of w b)) h.outcome
@@ -191,7 +191,7 @@ module _ {S T : Type 0} (m : Machine S) (w : Machine T) (ρ : ℕ → ℕ) where
 
     runs_same : (settings : Settings) (own : List Line) (entry : ℕ) (input : Input) →
         AllZip Q (session_run m settings (host m own) entry input).0 (session_run w settings (host w own) entry input).0
-        × EndsAlike m w ρ (session_run m settings (host m own) entry input).1 (session_run w settings (host w own) entry input).1
+        × EndsAlike m w ρ R (session_run m settings (host m own) entry input).1 (session_run w settings (host w own) entry input).1
     runs_same settings own entry input =
         let h = hosted_alike Q (RestR m w ρ R twin settings) (host m own) (host w own) (λ cs ds z. host_same own cs ds z)
         (run_on false m settings input (fresh (m.entry entry))) (run_on false w settings input (fresh (w.entry entry))) [] [] tt
@@ -209,16 +209,23 @@ module _ {S T : Type 0} (m : Machine S) (w : Machine T) (ρ : ℕ → ℕ) where
         ∙ ap (λ t. calls_lines m s (host m own) [] a.0 ++ t) (ends_same a.1 b.1 h.1 input.is_closed)
         ∙ sym (append_assoc (calls_lines m s (host m own) [] a.0) (stop_lines s a.1) (cond input.is_closed (end_line s (verdict_of m a.1) a.1.session.next) []))
 
-    session_same : (names : Names) (settings : Settings) (own past : List Line) → session_lines names w settings s own past ≡ session_lines names m settings s own past
-    session_same names settings own past = ap (λ t. cond (is_opened past) t []) (run_same settings own (entry_of names past) (input_of past))
+    session_same : (names : Names) (settings : Settings) (own past : List Line) →
+        session_lines names w settings s own past ≡ session_lines names m settings s own past
+    session_same names settings own past =
+        ap (λ n. cond (is_opened past) (run_lines w settings s (host w own) (entry_of names past) (input_of n past)) []) twin.width
+        ∙ ap (λ t. cond (is_opened past) t []) (run_same settings own (entry_of names past) (input_of m.width past))
 
     left_same : (names : Names) (settings : Settings) (own : List Line) → left_part names w settings s own ≡ left_part names m settings s own
     left_same names settings own =
-        let h = (runs_same settings own (entry_of names own) (input_of own)).1 in
-        let a = (session_run m settings (host m own) (entry_of names own) (input_of own)).1 in
-        let b = (session_run w settings (host w own) (entry_of names own) (input_of own)).1 in
-        ap (λ n. record { session = s; text = left_line s (verdict_of w b) n }) h.next
+        let h = (runs_same settings own (entry_of names own) (input_of m.width own)).1 in
+        let a = (session_run m settings (host m own) (entry_of names own) (input_of m.width own)).1 in
+        let b = (session_run w settings (host w own) (entry_of names own) (input_of m.width own)).1 in
+        ap (λ n. left_at (session_run w settings (host w own) (entry_of names own) (input_of n own)).1) twin.width
+        ∙ ap (λ n. record { session = s; text = left_line s (verdict_of w b) n }) h.next
         ∙ ap (λ v. record { session = s; text = left_line s v a.session.next }) h.verdict
+      where
+        left_at : Rest T → Part
+        left_at r = record { session = s; text = left_line s (verdict_of w r) r.session.next }
 
   module _ (R : S → T → Type 0) (twin : IsTwin m w ρ R) (names : Names) (settings : Settings) (script : List Line) where
     parts_from_same : (past rest : List Line) → parts_from names w settings script past rest ≡ parts_from names m settings script past rest

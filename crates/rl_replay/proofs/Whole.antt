@@ -1,5 +1,5 @@
 -- What the lines of a session add, one after another, is the lines of its run over all its input.
-use Rattle.std.proofs.Common.{◌≡◌, ℕ, zero, suc, ◌-◌, Bool, true, false, cond, not, ◌&&◌, ◌||◌, List, [], ◌∷◌, ◌++◌, map, length, drop, filter_map, Option, Some, None, slice_get, is_some, unwrap_or, refl, sym, ◌∙◌, ap, subst, append_assoc, append-nil, nat_lt}
+use Rattle.std.proofs.Common.{◌≡◌, ℕ, ◌-◌, Bool, true, false, cond, not, ◌&&◌, ◌||◌, List, [], ◌∷◌, ◌++◌, map, length, drop, filter_map, Option, Some, None, slice_get, is_some, unwrap_or, refl, sym, ◌∙◌, ap, subst, append_assoc, append-nil, nat_lt}
 use Rattle.std.proofs.lemmas.List.Elements.{filter_map-append}
 use Rattle.std.proofs.lemmas.Grind.{flat_map-append}
 use Rattle.std.proofs.lemmas.List.Folds.{list_any-append}
@@ -11,7 +11,9 @@ use Rattle.std.specs.Option.{option_or}
 use Rattle.rl_run.specs.declared.sessions.Settings.{Settings}
 use Rattle.rl_run.specs.Chain.{Extends}
 use Rattle.rl_run.specs.Machine.{Machine}
-use Rattle.rl_run.specs.Run.{Input}
+use Rattle.rl_types.specs.Alphabet.{characters}
+use Rattle.rl_types.proofs.Characters.{characters_of_front}
+use Rattle.rl_run.specs.Run.{Input, input_at}
 use Rattle.rl_replay.specs.declared.script.Event.{Event}
 use Rattle.rl_replay.specs.declared.script.Event.TheVariants.{Open, Piece, End, Pick, Say}
 use Rattle.rl_replay.specs.declared.script.Line.{Line}
@@ -27,17 +29,14 @@ first_append : {A : Type 0} (xs ys : List A) (x : A) → first xs ≡ Some x →
 first_append [] ys x e = absurd (cc e)
 first_append (y ∷ xs) ys x e = e
 
-get_append : (xs ys : List ℕ) (p byte : ℕ) → slice_get xs p ≡ Some byte → slice_get (xs ++ ys) p ≡ Some byte
-get_append [] ys p byte e = absurd (cc e)
-get_append (x ∷ xs) ys zero byte e = e
-get_append (x ∷ xs) ys (suc p) byte e = get_append xs ys p byte e
-
-extends_more : (xs ys : List ℕ) (a b : Bool) → Extends (record { base = 0; bytes = xs; is_closed = a }) (record { base = 0; bytes = xs ++ ys; is_closed = b })
-extends_more xs ys a b p byte e = go (nat_lt p 0) e
+-- what is seen of some bytes is seen where more stand behind them, also where the first end within a character
+extends_more : (width : ℕ) (xs ys : List ℕ) (a b : Bool) → Extends (input_at width 0 xs a) (input_at width 0 (xs ++ ys) b)
+extends_more width xs ys a b p character e = go (nat_lt p 0) e
   where
-    go : (b : Bool) → cond b None (slice_get xs (p - 0)) ≡ Some byte → cond b None (slice_get (xs ++ ys) (p - 0)) ≡ Some byte
+    go : (b : Bool) → cond b None (slice_get (characters width xs) (p - 0)) ≡ Some character →
+        cond b None (slice_get (characters width (xs ++ ys)) (p - 0)) ≡ Some character
     go true e = absurd (cc e)
-    go false e = get_append xs ys (p - 0) byte e
+    go false e = characters_of_front width xs ys (p - 0) character e
 
 -- a line that leaves the input of its session as it is
 abbrev pub IsQuiet : Event → Type 0
@@ -59,35 +58,35 @@ module _ {S : Type 0} (names : Names) (m : Machine S) (settings : Settings) (s :
   Grown a b = (more : List ℕ) × (b ≡ a ++ more)
 
   input_grows : (entry : Option (List ℕ)) (past : List Line) (line : Line) → (b : Bool) → is_ended past ≡ b → (b ≡ true → IsQuiet line.event) →
-      Grown (run_at (Some entry) (input_of past)) (run_at (Some entry) (input_of (past ++ line ∷ [])))
+      Grown (run_at (Some entry) (input_of m.width past)) (run_at (Some entry) (input_of m.width (past ++ line ∷ [])))
   input_grows entry past line false e quiet =
       let more = fed (line ∷ []) in
-      let extended = extends_more (fed past) more (is_ended past) (is_ended (past ++ line ∷ [])) in
-      let longer = subst (λ bytes. Extends (input_of past) (record { base = 0; bytes = bytes; is_closed = is_ended (past ++ line ∷ []) }))
+      let extended = extends_more m.width (fed past) more (is_ended past) (is_ended (past ++ line ∷ [])) in
+      let longer = subst (λ bytes. Extends (input_of m.width past) (input_at m.width 0 bytes (is_ended (past ++ line ∷ []))))
       (sym (flat_map-append (λ l. feeding_of l.event) past (line ∷ []))) extended in
-      run_lines_grow m s (host m own) settings (entry_or_start names entry) (input_of past) (input_of (past ++ line ∷ [])) longer e
+      run_lines_grow m s (host m own) settings (entry_or_start names entry) (input_of m.width past) (input_of m.width (past ++ line ∷ [])) longer e
   input_grows entry past line true e quiet =
       let bytes = flat_map-append (λ l. feeding_of l.event) past (line ∷ [])
       ∙ ap (λ t. fed past ++ (t ++ [])) (quiet refl).0 ∙ append-nil (fed past) in
       let closed = list_any-append (λ l. is_end l.event) past (line ∷ []) ∙ ap (λ b. b || (is_end line.event || false)) e ∙ sym e in (
         [],
-        ap (λ b. run_at (Some entry) (record { base = 0; bytes = b; is_closed = is_ended (past ++ line ∷ []) })) bytes
-            ∙ ap (λ c. run_at (Some entry) (record { base = 0; bytes = fed past; is_closed = c })) closed
-            ∙ sym (append-nil (run_at (Some entry) (input_of past))),
+        ap (λ b. run_at (Some entry) (input_at m.width 0 b (is_ended (past ++ line ∷ [])))) bytes
+            ∙ ap (λ c. run_at (Some entry) (input_at m.width 0 (fed past) c)) closed
+            ∙ sym (append-nil (run_at (Some entry) (input_of m.width past))),
       )
 
   line_grows : (past : List Line) (line : Line) → (is_ended past ≡ true → IsQuiet line.event) → Grown (lines past) (lines (past ++ line ∷ []))
   line_grows past line quiet = go (opened_at past) refl
     where
       go : (o : Option (Option (List ℕ))) → opened_at past ≡ o → Grown (lines past) (lines (past ++ line ∷ []))
-      go None e = (lines (past ++ line ∷ []), sym (ap (λ o. cond (is_some o) (run_at o (input_of past)) [] ++ lines (past ++ line ∷ [])) e))
+      go None e = (lines (past ++ line ∷ []), sym (ap (λ o. cond (is_some o) (run_at o (input_of m.width past)) [] ++ lines (past ++ line ∷ [])) e))
       go (Some entry) e =
           let later = ap first (filter_map-append (λ l. opening_of l.event) past (line ∷ []))
           ∙ first_append (filter_map (λ l. opening_of l.event) past) (filter_map (λ l. opening_of l.event) (line ∷ [])) entry e in
           let (more, g) = input_grows entry past line (is_ended past) refl quiet in (
             more,
-            ap (λ o. cond (is_some o) (run_at o (input_of (past ++ line ∷ []))) []) later ∙ g
-                ∙ sym (ap (λ o. cond (is_some o) (run_at o (input_of past)) [] ++ more) e),
+            ap (λ o. cond (is_some o) (run_at o (input_of m.width (past ++ line ∷ []))) []) later ∙ g
+                ∙ sym (ap (λ o. cond (is_some o) (run_at o (input_of m.width past)) [] ++ more) e),
           )
 
   abbrev AreOwn : List Line → Type 0
@@ -178,7 +177,7 @@ module _ {S : Type 0} (names : Names) (m : Machine S) (settings : Settings) wher
   -- one input at once is one run
   pub one_run : (s : List ℕ) (entry : Option (List ℕ)) (bytes : List ℕ) →
       written names m settings (whole_input s entry bytes)
-      ≡ run_lines m settings s (host m []) (entry_or_start names entry) (record { base = 0; bytes = bytes; is_closed = true })
+      ≡ run_lines m settings s (host m []) (entry_or_start names entry) (input_at m.width 0 bytes true)
   one_run s entry bytes =
       let script = whole_input s entry bytes in
       let own = only_own names m settings s script script (refl, (refl, (refl, tt))) in
@@ -186,4 +185,4 @@ module _ {S : Type 0} (names : Names) (m : Machine S) (settings : Settings) wher
       ap (λ ts. texts (parts_from names m settings script [] script ++ map (left names m settings script) ts)) none_left
       ∙ ap texts (append-nil (parts_from names m settings script [] script))
       ∙ added_up names m settings s script (refl, (refl, (refl, tt))) [] script tt (refl, (refl, (refl, tt))) ((λ e. absurd (cc e)), ((λ e. absurd (cc e)), ((λ e. absurd (cc e)), tt)))
-      ∙ ap (λ b. run_lines m settings s (host m []) (entry_or_start names entry) (record { base = 0; bytes = b; is_closed = true })) (append-nil bytes)
+      ∙ ap (λ b. run_lines m settings s (host m []) (entry_or_start names entry) (input_at m.width 0 b true)) (append-nil bytes)

@@ -5,4 +5,3 @@ pub mod OwnPicks
 pub mod Lines
 pub mod Written
 pub mod ScriptRows
-pub mod FirstForm

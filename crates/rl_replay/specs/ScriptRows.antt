@@ -36,6 +36,7 @@ hold = record { kind = Hold; outer = false; entry = None; base = Unread; offset 
 
 abbrev pub ab : Machine ℕ
 ab = record {
+  width = 1;
   key_of = λ byte. record { 0 = pos byte };
   asked = λ state key. 0;
   find = λ state key hold. find_ab state key;
@@ -109,3 +110,20 @@ SecondCallIsPicked =
 -- a pick of a statement that the action does not have stops the session
 abbrev pub NoSuchStatement : Type 0
 NoSuchStatement = replay ab (codes "open s\npick s x 1 7\npiece s \"ab\"\nend s") ≡ codes "s do x 0 ?7\ns stop stray 1\ns end error 1\n"
+
+-- 0x100 $x, in characters of two bytes
+abbrev pub find_wide : ℕ → Key → Option (Go ℕ)
+find_wide state key = cond (nat_eq state 1 && same_key key 256) (Some (record { target = 3; list = 1 ∷ [] })) None
+
+abbrev pub wide : Machine ℕ
+wide = record ab { width = 2; find = λ state key hold. find_wide state key }
+
+-- a piece may end within a character
+abbrev pub ACharacterIsCut : Type 0
+ACharacterIsCut =
+    replay wide (codes "open s\npiece s \"\\x00\"\npiece s \"\\x01\"\nend s")
+    ≡ codes "s do x 0\ns end final 1\n"
+
+-- and an input may not
+abbrev pub HalfACharacter : Type 0
+HalfACharacter = replay wide (codes "open s\npiece s \"\\x00\"\nend s") ≡ codes "s stop half-key 0\ns end error 0\n"

@@ -1,15 +1,13 @@
 //! What a replay is: the script language, the host that a script makes, the lines of a run, and what a replay writes;
-//! definitions and laws, and the code of them that today's program uses.
+//! definitions and laws, and the code of a host's own answers and of the lines.
 #![tactic(auto)]
 
-mod first_form;
 mod host;
 mod laws;
 mod lines;
 mod look_ups;
 mod script;
 
-pub use first_form::read_first_form;
 pub use host::answer_by_itself;
 pub use laws::{
     pieces_add_up, scripts_write_lines, sessions_are_apart, twins_write_the_same,

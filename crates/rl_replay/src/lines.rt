@@ -35,6 +35,7 @@ fn reason_text(cause: &Stop) -> &'static [u8]
         Stop::Stuck(_) => b"stuck",
         Stop::Overlong => b"overlong",
         Stop::PastEnd => b"past-end",
+        Stop::HalfKey => b"half-key",
         Stop::Stray(_) => b"stray",
         Stop::HostStop => b"host-stop",
     }

@@ -1,6 +1,5 @@
 use crate::{
-    Event, LookUps, ScriptFault, answer_by_itself, push_call_line, push_end_line, push_left_line,
-    push_stop_line, read_first_form,
+    LookUps, answer_by_itself, push_call_line, push_end_line, push_left_line, push_stop_line,
 };
 use rl_run::{Answer, Call, CallKind, GoalBase, Pick, Statement, StatementKind, Stop, Verdict};
 use rl_types::{ActionId, EntryId};
@@ -15,6 +14,7 @@ impl LookUps for Names {
     ghost use Rattle.rl_run.specs.declared.statements.GoalBase.TheVariants.{Unread};
 
     ghost machine = { λ _. record {
+      width = 1;
       key_of = λ byte. record { 0 = pos byte };
       asked = λ state key. 0;
       find = λ state key hold. None;
@@ -64,37 +64,6 @@ impl LookUps for Names {
     fn entry_name(&self, _entry: EntryId) -> &[u8] {
         b"main"
     }
-}
-
-#[test]
-fn three_lines_are_read(rt: HostRuntime) -> Result<(), Fail> {
-    let alloc = rt.alloc();
-    let script = read_first_form(alloc, b"open s-1\npiece s-1 \"a b\"\nend s-1")
-        .ok()
-        .ok_or("a script")?;
-    let lines = script.lines.as_slice();
-    assert_eq!(rt; lines.len(), 3);
-    let line = lines.get(1).ok_or("a second line")?;
-    assert_eq!(rt; line.number, 2);
-    match &line.event {
-        Event::Piece(session, bytes) => {
-            assert!(rt; session.bytes() == b"s-1".as_slice());
-            assert!(rt; bytes.as_slice() == b"a b".as_slice());
-        }
-        _ => return Err(Fail::from("no piece")),
-    }
-    for (text, line) in [
-        (b"opne s\n".as_slice(), 1),
-        (b"open s\npiece t \"a\"\nend s\n".as_slice(), 2),
-        (b"open s\npiece s \"a\"\n".as_slice(), 3),
-        (b"open s\npiece s \"a\"\nend s\n\n".as_slice(), 4),
-    ] {
-        match read_first_form(alloc, text) {
-            Err(fault) => assert_eq!(rt; fault, ScriptFault::BadLine { line }),
-            Ok(_) => return Err(Fail::from("a bad line was read")),
-        }
-    }
-    Ok(())
 }
 
 #[test]

@@ -7,14 +7,14 @@ use Rattle.rl_run.specs.declared.calls.Outcome.{Outcome}
 use Rattle.rl_run.specs.declared.calls.Outcome.TheVariants.{Wants, Broke, Ended, Stopped}
 use Rattle.rl_run.specs.declared.calls.CallKind.TheVariants.{Eof}
 use Rattle.rl_run.specs.declared.calls.Stop.{Stop as StopCause}
-use Rattle.rl_run.specs.declared.calls.Stop.TheVariants.{PastEnd}
+use Rattle.rl_run.specs.declared.calls.Stop.TheVariants.{PastEnd, HalfKey}
 use Rattle.rl_run.specs.declared.sessions.Flow.{Flow}
 use Rattle.rl_run.specs.declared.sessions.Flow.TheVariants.{Goes, Jumps, Breaks, Stops}
 use Rattle.rl_run.specs.declared.sessions.Settings.{Settings}
 use Rattle.rl_run.specs.Machine.{Machine, Session, keep}
 use Rattle.rl_run.specs.Picks.{Came, came}
 use Rattle.rl_run.specs.Turn.{calls, turn}
-use Rattle.rl_run.specs.Run.{Input, Rest, rest, letter, after, last_delivery, last_list, over, at_kept, ending, end_of, end_spot, at_letter, turns}
+use Rattle.rl_run.specs.Run.{Input, Rest, rest, letter, after, last_delivery, last_list, over, at_kept, ending, at_end, end_of, end_spot, at_letter, turns}
 use Rattle.rl_run.specs.Play.{Play, done, bind, Plays, AllEnds}
 use Rattle.rl_run.specs.Chain.{run_on}
 use Rattle.rl_run.specs.Fine.{IsKinded, IsFine, GoesOn, UnlessStops, weight}
@@ -97,15 +97,25 @@ module _ {S H : Type 0} (step : H → Call → Answer → H → Type 0) (m : Mac
           let past : end_of input ≤ s.next = unseen_past input s.next e (omega arith) in
           kept n ih s h fine low (omega arith) s.kept refl q
 
+  at_ended : (n : ℕ) → Lowers n → (s : Session S) (h : H) → IsFine m s → input.base ≤ keep settings s → letter input s.next ≡ None →
+      Plays step h (at_end true m settings input (λ v. turns true m settings input n v) s) last end → weight t < weight s
+  unfolding at_end
+  at_ended n ih s h fine low e p = go input.has_rest p
+    where
+      go : (d : Bool) → Plays step h (cond d (done (rest (Some (Stopped HalfKey)) s)) (ending true m settings (end_of input) s (λ v. turns true m settings input n v))) last end →
+          weight t < weight s
+      go true q = other (Some (Stopped HalfKey)) s (not_stopped HalfKey) q.1
+      go false q = ended n ih s h fine low e q
+
   lettered : (n : ℕ) → Lowers n → (s : Session S) (h : H) → IsFine m s → input.base ≤ keep settings s → (l : Option ℕ) → letter input s.next ≡ l →
       Plays step h (at_letter true m settings input (λ v. turns true m settings input n v) s l) last end → weight t < weight s
   unfolding at_letter
-  lettered n ih s h fine low (Some byte) e p =
-      joined n ih s low (turn m settings s byte) h (turn_law m settings s byte kinded fine (omega (arith, seen_before input s.next byte e))) p
+  lettered n ih s h fine low (Some character) e p =
+      joined n ih s low (turn m settings s character) h (turn_law m settings s character kinded fine (omega (arith, seen_before input s.next character e))) p
   lettered n ih s h fine low None e p = go input.is_closed p
     where
-      go : (d : Bool) → Plays step h (cond d (ending true m settings (end_of input) s (λ v. turns true m settings input n v)) (done (rest (Some Wants) s))) last end → weight t < weight s
-      go true q = ended n ih s h fine low e q
+      go : (d : Bool) → Plays step h (cond d (at_end true m settings input (λ v. turns true m settings input n v) s) (done (rest (Some Wants) s))) last end → weight t < weight s
+      go true q = at_ended n ih s h fine low e q
       go false q = other (Some Wants) s not_wants q.1
 
   pub turns_lower : (n : ℕ) → Lowers n

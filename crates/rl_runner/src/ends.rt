@@ -1,5 +1,5 @@
 // The end of input.
-ghost use Rattle.std.specs.Prelude.{◌≡◌, ◌+◌, ◌<◌, ◌≤◌, ◌^◌, ℕ, length, true, Some};
+ghost use Rattle.std.specs.Prelude.{◌≡◌, ◌+◌, ◌*◌, ◌<◌, ◌≤◌, ◌^◌, ℕ, length, true, Some};
 ghost use Rattle.rl_run.specs.Fine.{IsKinded, IsFine, GoesOn, UnlessStops};
 ghost use Rattle.rl_run.specs.Machine.{keep};
 ghost use Rattle.rl_run.specs.Picks.{came};
@@ -7,11 +7,12 @@ ghost use Rattle.rl_run.specs.Play.{Plays};
 ghost use Rattle.rl_run.specs.Run.{turns, rest, last_delivery, last_list, end_spot};
 ghost use Rattle.rl_runner.specs.Sessions.{session_of, IsSound};
 ghost use Rattle.rl_runner.specs.Feeds.{closed_of};
+ghost use Rattle.rl_types.specs.Alphabet.{has_rest};
 ghost use Rattle.rl_arrays.specs.TableMachine.{machine};
 ghost use Rattle.rl_arrays.specs.Sizes.{states};
 
 use crate::State;
-use crate::feeds::take_turn;
+use crate::feeds::{end_at, place_at, take_turn};
 use crate::lists::call_list;
 use crate::turns::{deliver, finish};
 use rl_run::{Answer, Call, CallKind, Flow, Outcome, Settings, Spot, Stop};
@@ -90,23 +91,34 @@ fn call_last<H: FnMut(Call) -> Answer>(
     }
 }
 
+// Whether bytes that fill no character stand at the end of a window.
+fn is_cut(window: &[u8], width: usize) -> bool
+    requires { 0 < width }
+    ensures { result ≡ has_rest width window.now }
+{
+    window.len() % width != 0
+}
+
 // Turns up to the end of a window that is the last one, and what follows there.
 pub fn end_state<H: FnMut(Call) -> Answer>(
     tables: &Tables,
     settings: &Settings,
     s: &mut State,
     host: &mut H,
+    width: usize,
     base: u64,
     window: &[u8],
 ) -> Outcome
+    requires width { width ≡ (machine tables.now).width }
+    requires some { 0 < width }
     requires kinded { IsKinded (machine tables.now) }
     requires sound { IsSound tables.now settings.now s.old }
     requires fine { IsFine (machine tables.now) (session_of (machine tables.now) s.old) }
     requires base { base ≤ keep settings.now (session_of (machine tables.now) s.old) }
-    requires end { base + length window.now < 2 ^ 63 }
+    requires end { width * base + length window.now < 2 ^ 63 }
     requires callable { H.IsAlwaysCallable host.old }
     ensures plays { (n : ℕ) × Plays H.step host.old
-        (turns true (machine tables.now) settings.now (closed_of base window.now) n (session_of (machine tables.now) s.old))
+        (turns true (machine tables.now) settings.now (closed_of width base window.now) n (session_of (machine tables.now) s.old))
         host.new (rest (Some result) (session_of (machine tables.now) s.new)) }
     ensures sound { IsSound tables.now settings.now s.new }
     ensures fine { result ≡ Outcome.Broke → IsFine (machine tables.now) (session_of (machine tables.now) s.new) }
@@ -114,15 +126,17 @@ pub fn end_state<H: FnMut(Call) -> Answer>(
     ensures no_wants { result ≡ Outcome.Wants → ⊥ }
     ensures callable { H.IsAlwaysCallable host.new }
 {
-    let end = base + window.len() as u64;
+    let end = end_at(base, window.len(), width);
     loop {
         if s.next < end {
-            let byte = window[(s.next - base) as usize];
-            match take_turn(tables, settings, byte, s, host) {
+            let at = place_at(base, s.next, window.len(), width);
+            match take_turn(tables, settings, width, window, at, s, host) {
                 Flow::Stops(cause) => return Outcome::Stopped(cause),
                 Flow::Breaks => return Outcome::Broke,
                 _ => {}
             }
+        } else if is_cut(window, width) {
+            return Outcome::Stopped(Stop::HalfKey);
         } else if s.next > end {
             return Outcome::Stopped(Stop::PastEnd);
         } else {

@@ -1,5 +1,5 @@
 // A runner that is fed window by window.
-ghost use Rattle.std.specs.Prelude.{◌≡◌, ◌≢◌, ◌+◌, ◌<◌, ◌≤◌, ◌^◌, ℕ, length, true, false, Some, None};
+ghost use Rattle.std.specs.Prelude.{◌≡◌, ◌≢◌, ◌+◌, ◌*◌, ◌/◌, ◌<◌, ◌≤◌, ◌^◌, ℕ, length, true, false, Some, None};
 ghost use Rattle.rl_run.specs.Chain.{Played, run_on};
 ghost use Rattle.rl_run.specs.Run.{rest};
 ghost use Rattle.rl_runner.specs.Feeds.{over_after, window_of};
@@ -8,6 +8,7 @@ ghost use Rattle.rl_arrays.specs.TableMachine.{machine};
 use crate::State;
 use crate::ends::end_state;
 use crate::feeds::feed_state;
+use crate::turns::width_in;
 use rl_run::{Answer, Call, Outcome, Settings, Verdict};
 use rl_tables::Tables;
 use rl_types::{EntryId, Memory};
@@ -112,7 +113,8 @@ impl Runner<'_> {
         }
     }
 
-    /// Makes turns up to the window's end, or through the turn in which a break is applied.
+    /// Makes turns up to the end of the window's whole characters, or through the turn in which a break is applied. The window
+    /// is the input's bytes so far from the character `base` on.
     pub fn feed<H: FnMut(Call) -> Answer>(
         &mut self,
         host: &mut H,
@@ -120,14 +122,14 @@ impl Runner<'_> {
         window: &[u8],
     ) -> Outcome
         requires base { base ≤ keep self.old.settings self.old.session }
-        requires end { base + length window.now < 2 ^ 63 }
+        requires end { (machine self.old.tables).width * base + length window.now < 2 ^ 63 }
         requires callable { H.IsAlwaysCallable host.old }
 
         // The host is called with a chain of calls: those of the run on the window, with exactly its answers.
         ensures played { self.old.over ≡ None → Played H.step host.old
-            (run_on true (machine self.old.tables) self.old.settings (window_of base window.now) self.old.session)
+            (run_on true (machine self.old.tables) self.old.settings (window_of (machine self.old.tables).width base window.now) self.old.session)
             host.new (rest (Some result) self.new.session) }
-        ensures wants { result ≡ Outcome.Wants → base + length window.now ≤ self.new.session.next }
+        ensures wants { result ≡ Outcome.Wants → base + length window.now / (machine self.old.tables).width ≤ self.new.session.next }
         ensures over_after { self.new.over ≡ over_after result }
         ensures same { (self.new.tables ≡ self.old.tables) × (self.new.settings ≡ self.old.settings) }
         ensures keeps { self.new.over ≡ None → base ≤ keep self.new.settings self.new.session }
@@ -146,11 +148,13 @@ impl Runner<'_> {
         if let Some(outcome) = self.over {
             return outcome;
         }
+        let width = width_in(self.tables);
         let outcome = feed_state(
             self.tables,
             &self.settings,
             &mut self.session,
             host,
+            width,
             base,
             window,
         );
@@ -158,7 +162,8 @@ impl Runner<'_> {
         outcome
     }
 
-    /// Makes turns up to the end of the last window, and what follows at the end of input.
+    /// Makes turns up to the end of the last window, and what follows at the end of input. Where its last bytes fill no
+    /// character it stops there with `HalfKey`.
     pub fn end<H: FnMut(Call) -> Answer>(
         &mut self,
         host: &mut H,
@@ -166,12 +171,12 @@ impl Runner<'_> {
         window: &[u8],
     ) -> Outcome
         requires base { base ≤ keep self.old.settings self.old.session }
-        requires end { base + length window.now < 2 ^ 63 }
+        requires end { (machine self.old.tables).width * base + length window.now < 2 ^ 63 }
         requires callable { H.IsAlwaysCallable host.old }
 
         // The host is called with a chain of calls: those of the run to the end of input, with exactly its answers.
         ensures played { self.old.over ≡ None → Played H.step host.old
-            (run_on true (machine self.old.tables) self.old.settings (closed_of base window.now) self.old.session)
+            (run_on true (machine self.old.tables) self.old.settings (closed_of (machine self.old.tables).width base window.now) self.old.session)
             host.new (rest (Some result) self.new.session) }
         ensures ends { result ≢ Outcome.Wants }
         ensures over_after { self.new.over ≡ over_after result }
@@ -188,11 +193,13 @@ impl Runner<'_> {
         if let Some(outcome) = self.over {
             return outcome;
         }
+        let width = width_in(self.tables);
         let outcome = end_state(
             self.tables,
             &self.settings,
             &mut self.session,
             host,
+            width,
             base,
             window,
         );

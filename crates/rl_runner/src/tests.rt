@@ -116,21 +116,24 @@ fn assembled(
     alloc: Global,
     start: i64,
     first_final: i64,
+    alphabet: i64,
     names: NameLists,
     mut lists: Vec<List<i64>>,
 ) -> Arrays {
     let lists = &mut lists;
     Arrays {
+        version: 1,
         name: names.machine,
         start,
         first_final,
-        alphabet: 0,
+        alphabet,
         actions: next(alloc, lists),
         key_offsets: next(alloc, lists),
         trans_keys: next(alloc, lists),
         single_lengths: next(alloc, lists),
         range_lengths: next(alloc, lists),
         cell_offsets: next(alloc, lists),
+        cell_uses: List::new(alloc),
         cell_asks: next(alloc, lists),
         cell_entries: next(alloc, lists),
         trans_targs: next(alloc, lists),
@@ -155,14 +158,17 @@ fn assembled(
     }
 }
 
-fn word(alloc: Global) -> Result<Arrays, AllocError> {
+/// The alphabet's number is 0 for `char`, 2 for `short`.
+fn word(alloc: Global, alphabet: i64) -> Result<Arrays, AllocError> {
     let names = names_of(alloc, &["", "x"])?;
-    Ok(assembled(alloc, 1, 3, names, lists_of(alloc, &WORD)?))
+    let lists = lists_of(alloc, &WORD)?;
+    Ok(assembled(alloc, 1, 3, alphabet, names, lists))
 }
 
 fn scanner(alloc: Global) -> Result<Arrays, AllocError> {
     let names = names_of(alloc, &["", "A", "B"])?;
-    Ok(assembled(alloc, 4, 4, names, lists_of(alloc, &SCANNER)?))
+    let lists = lists_of(alloc, &SCANNER)?;
+    Ok(assembled(alloc, 4, 4, 0, names, lists))
 }
 
 const SETTINGS: Settings = Settings {
@@ -275,7 +281,7 @@ fn told_by(
 #[test]
 fn steps_a_word(rt: HostRuntime) -> Result<(), Fail> {
     let alloc = rt.alloc();
-    let told = told_by(alloc, word(alloc), Answer::Yes, b"a", b"ab").ok_or("no tables")?;
+    let told = told_by(alloc, word(alloc, 0), Answer::Yes, b"a", b"ab").ok_or("no tables")?;
     assert_eq!(rt; told.calls.as_slice(), [step(1, 0), step(1, 1)].as_slice());
     assert_eq!(rt; told.first, Outcome::Wants);
     assert_eq!(rt; told.second, Outcome::Wants);
@@ -300,11 +306,13 @@ fn delivers_tokens(rt: HostRuntime) -> Result<(), Fail> {
 }
 
 #[test]
-fn is_stopped_by_its_host(rt: HostRuntime) -> Result<(), Fail> {
+fn stops_at_half_a_character(rt: HostRuntime) -> Result<(), Fail> {
     let alloc = rt.alloc();
-    let told = told_by(alloc, word(alloc), Answer::Stop, b"a", b"ab").ok_or("no tables")?;
+    let told = told_by(alloc, word(alloc, 2), Answer::Yes, b"a", b"a\0b").ok_or("no tables")?;
     assert_eq!(rt; told.calls.as_slice(), [step(1, 0)].as_slice());
-    assert_eq!(rt; told.first, Outcome::Stopped(Stop::HostStop));
+    assert_eq!(rt; told.first, Outcome::Wants);
+    assert_eq!(rt; told.second, Outcome::Wants);
+    assert_eq!(rt; told.last, Outcome::Stopped(Stop::HalfKey));
     assert_eq!(rt; told.next, 1);
     assert_eq!(rt; told.verdict, Verdict::Error);
     Ok(())

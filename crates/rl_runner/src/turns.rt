@@ -1,13 +1,15 @@
 // The parts of a turn.
-ghost use Rattle.std.specs.Prelude.{◌≡◌, ◌<◌, ◌≤◌, ◌^◌, ℕ, length, map, All, [], Some, None, MatchOption};
+ghost use Rattle.std.specs.Prelude.{◌≡◌, ◌+◌, ◌<◌, ◌≤◌, ◌^◌, ℕ, length, map, All, [], Some, None, MatchOption};
 ghost use Rattle.rl_run.specs.Picks.{came};
 ghost use Rattle.rl_run.specs.Play.{Plays};
 ghost use Rattle.rl_run.specs.Turn as says;
+ghost use Rattle.rl_runner.specs.Feeds.{spot_by};
 ghost use Rattle.rl_runner.specs.Sessions.{session_of, IsSound, kept_of};
 ghost use Rattle.rl_arrays.specs.TableMachine.{machine};
 ghost use Rattle.rl_arrays.specs.Words.{natural};
 ghost use Rattle.rl_arrays.specs.Sizes.{states};
 ghost use Rattle.rl_tables.specs.Steps.{IsId};
+ghost use Rattle.rl_types.specs.Alphabet.{group_at};
 
 use crate::State;
 use crate::lists::{call_list, make_call};
@@ -476,37 +478,65 @@ fn run_body<H: FnMut(Call) -> Answer>(
     }
 }
 
-fn spot_of(tables: &Tables, settings: &Settings, s: &State, byte: u8) -> Spot
-    ensures { result ≡ says.spot_of (machine tables.now) settings.now (session_of (machine tables.now) s.now) byte }
+// How many bytes a character has.
+#[tactic(auto, unfolding(rl_arrays::specs::TableMachine::machine))]
+pub fn width_in(tables: &Tables) -> usize
+    ensures value { result ≡ (machine tables.now).width }
+    ensures some { 0 < result }
+{
+    tables.alphabet().width() as usize
+}
+
+// The key of the character whose bytes stand from a place on.
+#[tactic(auto, unfolding(rl_arrays::specs::TableMachine::machine))]
+fn key_in(tables: &Tables, width: usize, window: &[u8], at: usize) -> Key
+    requires width { width ≡ (machine tables.now).width }
+    requires whole { at + width ≤ length window.now }
+    ensures { result ≡ (machine tables.now).key_of (group_at width window.now at) }
+{
+    let _ = width;
+    match tables.alphabet().key_at(window, at) {
+        Some(key) => key,
+        None => unreachable!(),
+    }
+}
+
+fn spot_for(tables: &Tables, settings: &Settings, s: &State, key: Key) -> Spot
+    ensures { result ≡ spot_by settings.now (session_of (machine tables.now) s.now) key }
 {
     Spot {
         at: s.next,
-        key: Some(tables.key_of(byte)),
+        key: Some(key),
         floor: s.keep(settings),
         is_end: false,
     }
 }
 
-// The turn for one byte.
+// The turn for the character whose bytes stand from a place of a window on.
 #[tactic(auto, unfolding(rl_run::specs::Turn::turn))]
 pub fn run_turn<H: FnMut(Call) -> Answer>(
     tables: &Tables,
     settings: &Settings,
-    byte: u8,
+    width: usize,
+    window: &[u8],
+    at: usize,
     s: &mut State,
     host: &mut H,
 ) -> Flow
+    requires width { width ≡ (machine tables.now).width }
+    requires whole { at + width ≤ length window.now }
     requires sound { IsSound tables.now settings.now s.old }
     requires next { s.old.next < 2 ^ 63 }
     requires callable { H.IsAlwaysCallable host.old }
     ensures plays { Plays H.step host.old
-        (says.turn (machine tables.now) settings.now (session_of (machine tables.now) s.old) byte)
+        (says.turn (machine tables.now) settings.now (session_of (machine tables.now) s.old) (group_at width window.now at))
         host.new (came result (session_of (machine tables.now) s.new)) }
     ensures sound { IsSound tables.now settings.now s.new }
     ensures callable { H.IsAlwaysCallable host.new }
 {
-    let spot = spot_of(tables, settings, s, byte);
+    let key = key_in(tables, width, window, at);
+    let spot = spot_for(tables, settings, s, key);
     open_token(tables, settings, s);
-    let flow = run_body(tables, settings, &spot, tables.key_of(byte), s, host);
+    let flow = run_body(tables, settings, &spot, key, s, host);
     finish(tables, settings, &spot, flow, s, host)
 }

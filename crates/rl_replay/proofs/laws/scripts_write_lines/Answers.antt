@@ -1,4 +1,4 @@
-use Rattle.rl_replay.proofs.Rows.{three_lines, bad_word, fed_unopened, opened_twice, no_entry, each_call, stopped, left_behind, interleaved, second_call_picked, no_such_statement}
+use Rattle.rl_replay.proofs.Rows.{three_lines, bad_word, fed_unopened, opened_twice, no_entry, each_call, stopped, left_behind, interleaved, second_call_picked, no_such_statement, cut_character, half_a_character}
 use Rattle.rl_replay.proofs.laws.scripts_write_lines.Goals as goal
 
 pub returns-clause-three_lines : goal.returns-clause-three_lines
@@ -33,3 +33,9 @@ returns-clause-picks c = second_call_picked
 
 pub returns-clause-stray : goal.returns-clause-stray
 returns-clause-stray c = no_such_statement
+
+pub returns-clause-cut : goal.returns-clause-cut
+returns-clause-cut c = cut_character
+
+pub returns-clause-half_key : goal.returns-clause-half_key
+returns-clause-half_key c = half_a_character

@@ -5,6 +5,6 @@ use Rattle.rl_runner.proofs.turns.run_turn.Goals as goal
 pub returns-clause-plays : goal.returns-clause-plays
 unfolding says.turn
 returns-clause-plays g c =
-    let first = rw (c.open_token.ensures.says, c.spot_of-spot.ensures, c.key_of.ensures) at c.run_body-flow.ensures.plays in
-    let second = rw c.spot_of-spot.ensures at c.finish.ensures.plays in
+    let first = rw (c.open_token.ensures.says, c.spot_for-spot.ensures, c.key_in-key.ensures) at c.run_body-flow.ensures.plays in
+    let second = rw (c.spot_for-spot.ensures, c.key_in-key.ensures) at c.finish.ensures.plays in
     plays_bind _ _ _ _ _ _ _ _ first second

@@ -1,6 +1,7 @@
-use Rattle.std.proofs.Common.{true, sym, arith}
+use Rattle.std.proofs.Common.{true, sym}
 use Rattle.rl_run.proofs.Cuts.{on_enough, played}
 use Rattle.rl_runner.proofs.Broken.{turns_lower}
+use Rattle.rl_runner.proofs.Letters.{limit, played_by}
 use Rattle.rl_runner.proofs.runner.Runner.end.Goals as goal
 
 pub returns-in-Some-clause-over_after : goal.returns-in-Some-clause-over_after
@@ -13,7 +14,11 @@ returns-clause-played g c = λ none.
     let p = c.end_state-outcome.ensures.plays in
     let fine = rw c.in_default.is at c.self.invariant.fine in
     let low = rw (← c.self.view_is) at c.requires.base in
-    rw (← c.self.view_is) (played _ _ _ _ _ (on_enough _ _ c.self.invariant.kinded _ true _ (omega arith) p.0 _ _ _ _ _ fine low p.1))
+    let end = rw (← c.self.view_is, ← c.width_in-width.ensures.value) at c.requires.end in
+    let below = limit c.width_in-width.result c.args.base c.args.window.now true c.width_in-width.ensures.some end in
+    rw (← c.self.view_is)
+    (played_by _ _ _ c.width_in-width.result _ c.args.base c.args.window.now true _ _ _ _ c.width_in-width.ensures.value
+    (played _ _ _ _ _ (on_enough _ _ c.self.invariant.kinded _ true _ below p.0 _ _ _ _ _ fine low p.1)))
 
 pub returns-clause-lowers : goal.returns-clause-lowers
 returns-clause-lowers g c = λ none broke.
@@ -21,4 +26,6 @@ returns-clause-lowers g c = λ none broke.
     let q = rw broke at p.1 in
     let fine = rw c.in_default.is at c.self.invariant.fine in
     let low = rw (← c.self.view_is) at c.requires.base in
-    rw (← c.self.view_is) (turns_lower _ _ c.self.invariant.kinded _ _ (omega arith) _ _ p.0 _ _ fine low q)
+    let end = rw (← c.self.view_is, ← c.width_in-width.ensures.value) at c.requires.end in
+    let below = limit c.width_in-width.result c.args.base c.args.window.now true c.width_in-width.ensures.some end in
+    rw (← c.self.view_is) (turns_lower _ _ c.self.invariant.kinded _ _ below _ _ p.0 _ _ fine low q)
