@@ -11,6 +11,7 @@ pub mod BracketLaws
 pub mod ReadingLaws
 pub mod Rests
 pub mod ValueLaws
+pub mod PrintLaws
 pub mod Injective
 pub mod Outcomes
 pub mod OnlyLaws

@@ -1,5 +1,5 @@
 -- What the lines of arrays may say.
-use Rattle.std.specs.Prelude.{ℕ, ℤ, Bool, IsTrue, ◌||◌, List, []}
+use Rattle.std.specs.Prelude.{◌≡◌, ℕ, ℤ, pos, Bool, true, false, IsTrue, ◌||◌, List, []}
 use Rattle.std.specs.List.{AllByRecursion}
 use Rattle.std.specs.Int.{w64}
 use Rattle.std.specs.Int.RustNames.{FitsSigned}
@@ -8,6 +8,8 @@ use Rattle.rl_arrays.specs.declared.arrays.Arrays.{Arrays}
 use Rattle.rl_arrays.specs.declared.arrays.ArrayName.{ArrayName}
 use Rattle.rl_arrays.specs.declared.arrays.ArrayName.TheVariants as the
 use Rattle.rl_arrays.specs.Names.{is_name, is_action_name}
+use Rattle.rl_arrays.specs.Sizes.{shares}
+use Rattle.rl_arrays.specs.Valid.{IsVersioned}
 
 -- the elements of an array
 pub data Content : Type 0 where
@@ -21,6 +23,7 @@ content a the.TransKeys = Numbers a.trans_keys
 content a the.SingleLengths = Numbers a.single_lengths
 content a the.RangeLengths = Numbers a.range_lengths
 content a the.CellOffsets = Numbers a.cell_offsets
+content a the.CellUses = Numbers a.cell_uses
 content a the.CellAsks = Numbers a.cell_asks
 content a the.CellEntries = Numbers a.cell_entries
 content a the.TransTargs = Numbers a.trans_targs
@@ -62,8 +65,22 @@ Fits (Names names) = AllByRecursion IsPrintedName names
 abbrev pub IsPrintedEntry : List ℕ × ℤ → Type 0
 IsPrintedEntry entry = IsTrue (is_name entry.0) × IsPrintedNumber entry.1
 
--- what a section says can be printed: its numbers fit 64 bits, and its names are names
+-- the numbers of arrays fit their type
+abbrev pub AreNumbers : Content → Type 0
+AreNumbers (Numbers ns) = AllByRecursion IsPrintedNumber ns
+AreNumbers (Names names) = Unit {0}
+
+pub record HasNumbers (a : Arrays) : Type 0 where
+  pub start : IsPrintedNumber a.start
+  pub first_final : IsPrintedNumber a.first_final
+  pub alphabet : IsPrintedNumber a.alphabet
+  pub arrays : (array : ArrayName) → AreNumbers (content a array)
+
+-- what a section says can be printed: its version is one that there is, and only one that shares cells has uses; its numbers fit 64 bits, and
+-- its names are names
 pub record IsPrintable (a : Arrays) (lines : List (List ℕ × ℤ)) : Type 0 where
+  pub version : IsVersioned a
+  pub uses : shares a ≡ false → a.cell_uses ≡ []
   pub name : IsTrue (is_name a.name)
   pub start : IsPrintedNumber a.start
   pub first_final : IsPrintedNumber a.first_final

@@ -1,5 +1,5 @@
 -- A section put together line by line.
-use Rattle.std.specs.Prelude.{ℕ, ℤ, pos, List, [], ◌∷◌, ◌++◌}
+use Rattle.std.specs.Prelude.{ℕ, ℤ, pos, Bool, if◌then◌else◌, List, [], ◌∷◌, ◌++◌}
 use Rattle.rl_arrays.specs.declared.arrays.Arrays.{Arrays}
 use Rattle.rl_arrays.specs.declared.arrays.ArrayName.{ArrayName}
 use Rattle.rl_arrays.specs.declared.arrays.ArrayName.TheVariants as array
@@ -9,9 +9,14 @@ use Rattle.rl_cread.specs.declared.said.Label.{Label}
 use Rattle.rl_cread.specs.declared.said.Label.TheVariants as label
 use Rattle.rl_cread.specs.declared.raw.Raw.{Raw}
 
+-- the version of arrays whose keys share cells, or of those whose keys do not
+abbrev pub version_of : Bool → ℤ
+version_of shared = if shared then pos 2 else pos 1
+
 -- arrays without elements
-abbrev pub empty : List ℕ → Arrays
-empty name = record {
+abbrev pub empty : Bool → List ℕ → Arrays
+empty shared name = record {
+  version = version_of shared;
   name = name;
   start = pos 0;
   first_final = pos 0;
@@ -22,6 +27,7 @@ empty name = record {
   single_lengths = [];
   range_lengths = [];
   cell_offsets = [];
+  cell_uses = [];
   cell_asks = [];
   cell_entries = [];
   trans_targs = [];
@@ -57,6 +63,7 @@ with_numbers array.TransKeys ns a = record a { trans_keys = ns }
 with_numbers array.SingleLengths ns a = record a { single_lengths = ns }
 with_numbers array.RangeLengths ns a = record a { range_lengths = ns }
 with_numbers array.CellOffsets ns a = record a { cell_offsets = ns }
+with_numbers array.CellUses ns a = record a { cell_uses = ns }
 with_numbers array.CellAsks ns a = record a { cell_asks = ns }
 with_numbers array.CellEntries ns a = record a { cell_entries = ns }
 with_numbers array.TransTargs ns a = record a { trans_targs = ns }

@@ -1,12 +1,13 @@
 -- What each line of a section says, and the line that says it.
-use Rattle.std.specs.Prelude.{◌≡◌, ℕ, ◌+◌, ◌<◌, IsTrue, ℤ, pos, List, [], ◌∷◌, ◌++◌, map, replicate, length, Option, None, Some, IsSomeAnd, slice_get, codes}
+use Rattle.std.specs.Prelude.{◌≡◌, ℕ, ◌+◌, ◌<◌, Bool, true, false, IsTrue, ℤ, pos, List, [], ◌∷◌, ◌++◌, map, replicate, length, Option, None, Some, IsSomeAnd, slice_get, codes}
 use Rattle.std.specs.List.{AllByRecursion}
 use Rattle.std.specs.Fmt.{signed_decimal}
 use Rattle.rl_arrays.specs.declared.arrays.Arrays.{Arrays}
 use Rattle.rl_arrays.specs.declared.arrays.ArrayName.{ArrayName}
-use Rattle.rl_arrays.specs.declared.arrays.TheConstants.{ORDER}
+use Rattle.rl_arrays.specs.declared.arrays.ArrayName.TheVariants.{CellUses}
 use Rattle.rl_arrays.specs.Names.{is_name}
-use Rattle.rl_arrays.specs.Section.{quoted, last_line, number_line, entry_line, array_line}
+use Rattle.rl_arrays.specs.Sizes.{shares}
+use Rattle.rl_arrays.specs.Section.{quoted, last_line, number_line, entry_line, array_line, printed}
 use Rattle.rl_cread.specs.declared.said.Form.{Form}
 use Rattle.rl_cread.specs.declared.said.Form.TheVariants as form
 use Rattle.rl_cread.specs.declared.said.Label.{Label}
@@ -15,7 +16,7 @@ use Rattle.rl_cread.specs.declared.said.Said.{Said}
 use Rattle.rl_cread.specs.declared.said.Said.TheVariants as the
 use Rattle.rl_cread.specs.declared.said.Stop.{Stop}
 use Rattle.rl_cread.specs.declared.said.Stop.TheVariants as stop
-use Rattle.rl_cread.specs.declared.said.TheConstants.{HEAD, TAIL}
+use Rattle.rl_cread.specs.declared.said.TheConstants.{HEAD, FRONT, BACK}
 use Rattle.rl_cread.specs.Contents.{Content, Numbers, Names, content, IsPrintedNumber, IsPrintedName}
 
 abbrev pub label_word : Label → List ℕ
@@ -77,9 +78,18 @@ SoFar name fs lines [] = Unit {0}
 SoFar name (f ∷ fs) (l ∷ lines) (s ∷ ss) = FitsForm f s × (l ≡ line name s) × SoFar name fs lines ss
 SoFar name fs lines ss = ⊥
 
+-- the forms of the line of uses, which only a section whose keys share cells has
+abbrev pub uses : Bool → List Form
+uses true = form.Numbers CellUses ∷ []
+uses false = []
+
+-- the forms of the lines behind the entries
+abbrev pub tail : Bool → List Form
+tail shared = FRONT ++ (uses shared ++ BACK)
+
 -- the forms of the lines behind the first one, of a section with so many entry lines
-abbrev pub shape : ℕ → List Form
-shape entries = HEAD ++ (replicate entries form.Entry ++ TAIL)
+abbrev pub shape : Bool → ℕ → List Form
+shape shared entries = HEAD ++ (replicate entries form.Entry ++ tail shared)
 
 -- the line is that of an entry
 pub record IsEntryLine (name line : List ℕ) : Type 0 where
@@ -101,7 +111,10 @@ saying array (Names names) = the.Names array names
 abbrev pub said_entry : List ℕ × ℤ → Said
 said_entry entry = the.Entry entry.0 entry.1
 
+abbrev pub tail_of : Bool → Arrays → List Said
+tail_of shared a = map (λ array. saying array (content a array)) (printed shared) ++ (the.Last ∷ [])
+
 abbrev pub said_of : Arrays → List (List ℕ × ℤ) → List Said
 said_of a lines =
     the.Number label.Start a.start ∷ the.Number label.FirstFinal a.first_final ∷ the.Error ∷ the.Number label.Alphabet a.alphabet
-    ∷ (map said_entry lines ++ (map (λ array. saying array (content a array)) ORDER ++ (the.Last ∷ [])))
+    ∷ (map said_entry lines ++ tail_of (shares a) a)

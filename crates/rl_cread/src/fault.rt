@@ -11,7 +11,7 @@ pub enum TableFault {
     /// lines plus one.
     BadText { line: u64 },
     /// The text is that of a section, and this is the first element of its arrays that is not right. Start and entry
-    /// lines that disagree with the arrays, an alphabet above 1 and a first final state that is none are told at element
+    /// lines that disagree with the arrays, an alphabet above 5 and a first final state that is none are told at element
     /// 0 of `entry_states`.
     BadValue(BadValue),
     /// Out of memory.

@@ -1,6 +1,6 @@
 //! A section put together from what its lines say.
 ghost use Rattle.std.specs.Prelude.{◌≡◌, [], IfOk, OnOk};
-ghost use Rattle.rl_cread.specs.Gathering.{empty, with_number, with_numbers, with_names, put, filled};
+ghost use Rattle.rl_cread.specs.Gathering.{version_of, empty, with_number, with_numbers, with_names, put, filled};
 
 use crate::raw::Raw;
 use crate::said::{Label, Said};
@@ -8,10 +8,18 @@ use rl_arrays::{ArrayName, Arrays};
 use rl_types::{List, Name};
 use std::alloc::{AllocError, Global};
 
-fn no_arrays(alloc: Global, name: Name) -> Arrays
-    ensures { result ≡ empty name }
+/// The version of arrays whose keys share cells, or of those whose keys do not.
+fn version_of(shared: bool) -> i64
+    ensures { result ≡ version_of shared }
+{
+    if shared { 2 } else { 1 }
+}
+
+fn no_arrays(alloc: Global, shared: bool, name: Name) -> Arrays
+    ensures { result ≡ empty shared name }
 {
     Arrays {
+        version: version_of(shared),
         name,
         start: 0,
         first_final: 0,
@@ -22,6 +30,7 @@ fn no_arrays(alloc: Global, name: Name) -> Arrays
         single_lengths: List::new(alloc),
         range_lengths: List::new(alloc),
         cell_offsets: List::new(alloc),
+        cell_uses: List::new(alloc),
         cell_asks: List::new(alloc),
         cell_entries: List::new(alloc),
         trans_targs: List::new(alloc),
@@ -66,6 +75,7 @@ fn put_numbers(arrays: &mut Arrays, array: ArrayName, numbers: List<i64>)
         ArrayName::SingleLengths => arrays.single_lengths = numbers,
         ArrayName::RangeLengths => arrays.range_lengths = numbers,
         ArrayName::CellOffsets => arrays.cell_offsets = numbers,
+        ArrayName::CellUses => arrays.cell_uses = numbers,
         ArrayName::CellAsks => arrays.cell_asks = numbers,
         ArrayName::CellEntries => arrays.cell_entries = numbers,
         ArrayName::TransTargs => arrays.trans_targs = numbers,
@@ -115,11 +125,16 @@ fn put_said(raw: &mut Raw, said: Said) -> Result<(), AllocError>
 }
 
 /// The section of which the lines say this.
-pub(crate) fn gathered(alloc: Global, name: Name, said: Vec<Said>) -> Result<Raw, AllocError>
-    ensures { IfOk result (λ raw. raw ≡ filled said.items (record { arrays = empty name; entries = [] })) }
+pub(crate) fn gathered(
+    alloc: Global,
+    shared: bool,
+    name: Name,
+    said: Vec<Said>,
+) -> Result<Raw, AllocError>
+    ensures { IfOk result (λ raw. raw ≡ filled said.items (record { arrays = empty shared name; entries = [] })) }
 {
     let mut raw = Raw {
-        arrays: no_arrays(alloc, name),
+        arrays: no_arrays(alloc, shared, name),
         entries: List::new(alloc),
     };
     for one in said {

@@ -2,9 +2,8 @@
 ghost use Rattle.std.specs.Prelude.{IfOk, IfErr, MatchResult, ◌≡◌, ◌+◌, ◌<◌, ◌^◌, ℕ, map, drop, length};
 ghost use Rattle.std.specs.Option.{option_copied};
 ghost use Rattle.rl_arrays.specs.declared.arrays.Arrays.{Arrays};
-ghost use Rattle.rl_arrays.specs.Section.{entries};
 ghost use Rattle.rl_arrays.specs.Valid.{Valid};
-ghost use Rattle.rl_cread.specs.Contents.{IsPrintable};
+ghost use Rattle.rl_cread.specs.Contents.{HasNumbers};
 ghost use Rattle.rl_cread.specs.Sections.{IsRead, Explains};
 ghost use Rattle.rl_cread.specs.Reading.{ReadsAs};
 ghost use Rattle.rl_cread.specs.Outcome.{StopsIn, IsReadAt, IsRefusedAt};
@@ -19,13 +18,19 @@ use rl_tables::Tables;
 use std::alloc::Global;
 
 /// The section whose first line stands at an index.
-fn raw_at(alloc: Global, name: &[u8], lines: &[&[u8]], at: usize) -> Result<Raw, TableFault>
+fn raw_at(
+    alloc: Global,
+    shared: bool,
+    name: &[u8],
+    lines: &[&[u8]],
+    at: usize,
+) -> Result<Raw, TableFault>
     requires within { at < length lines.now }
     requires few { length lines.now < 2 ^ 63 }
-    ensures found { IfOk result (ReadsAs name.now (drop (at + 1) (map (λ line. line.now) lines.now))) }
-    ensures told { IfErr result (StopsIn name.now (map (λ line. line.now) lines.now) at) }
+    ensures found { IfOk result (ReadsAs shared name.now (drop (at + 1) (map (λ line. line.now) lines.now))) }
+    ensures told { IfErr result (StopsIn shared name.now (map (λ line. line.now) lines.now) at) }
 {
-    match read_section(alloc, name, lines_from(lines, at + 1)) {
+    match read_section(alloc, shared, name, lines_from(lines, at + 1)) {
         Ok(raw) => Ok(raw),
         Err(Stop::Memory) => Err(TableFault::Memory),
         Err(Stop::BadLine(place)) => Err(TableFault::BadText {
@@ -35,13 +40,19 @@ fn raw_at(alloc: Global, name: &[u8], lines: &[&[u8]], at: usize) -> Result<Raw,
 }
 
 /// The tables of the section whose first line stands at an index.
-fn tables_at(alloc: Global, name: &[u8], lines: &[&[u8]], at: usize) -> Result<Tables, TableFault>
+fn tables_at(
+    alloc: Global,
+    shared: bool,
+    name: &[u8],
+    lines: &[&[u8]],
+    at: usize,
+) -> Result<Tables, TableFault>
     requires within { at < length lines.now }
     requires few { length lines.now < 2 ^ 63 }
-    ensures read { IfOk result (IsReadAt name.now (map (λ line. line.now) lines.now) at) }
-    ensures told { IfErr result (IsRefusedAt name.now (map (λ line. line.now) lines.now) at) }
+    ensures read { IfOk result (IsReadAt shared name.now (map (λ line. line.now) lines.now) at) }
+    ensures told { IfErr result (IsRefusedAt shared name.now (map (λ line. line.now) lines.now) at) }
 {
-    match raw_at(alloc, name, lines, at) {
+    match raw_at(alloc, shared, name, lines, at) {
         Ok(raw) => tables_of(raw),
         Err(fault) => Err(fault),
     }
@@ -51,17 +62,17 @@ fn tables_at(alloc: Global, name: &[u8], lines: &[&[u8]], at: usize) -> Result<T
 fn tables_in(alloc: Global, text: &[u8], machine: Option<&[u8]>) -> Result<Tables, TableFault>
     ensures read { IfOk result (IsRead (option_copied machine.entry) text.now) }
     ensures told { IfErr result (Explains (option_copied machine.entry) text.now) }
-    ensures only { (a : Arrays) → IsRead (option_copied machine.entry) text.now a → IsPrintable a (entries a) → Valid a → MatchResult result (λ t. t ≡ a) (λ e. e ≡ TableFault.Memory) }
+    ensures only { (a : Arrays) → IsRead (option_copied machine.entry) text.now a → HasNumbers a → Valid a → MatchResult result (λ t. t ≡ a) (λ e. e ≡ TableFault.Memory) }
 {
     let lines = lines_of(alloc, text)?;
     match first_section(machine, &lines) {
-        Some((at, name)) => tables_at(alloc, name, &lines, at),
+        Some((at, shared, name)) => tables_at(alloc, shared, name, &lines, at),
         None => Err(TableFault::NoSection),
     }
 }
 
-/// The tables of the first section in a text: of the machine of this name, or of any machine where none is named. Lines
-/// before and behind the section may be any. The text is looked at first, line by line, and then the values, array by
+/// The tables of the first section in a text: of the machine of this name, or of any machine where none is named. The
+/// first line of a section says which version it has. Lines before and behind the section may be any. The text is looked at first, line by line, and then the values, array by
 /// array (this profile).
 ///
 /// It answers NoSection exactly where no line begins a section, and BadText, BadValue and Memory as `TableFault` says.
@@ -69,8 +80,8 @@ pub fn read_tables(alloc: Global, text: &[u8], machine: Option<&[u8]>) -> Result
     // the section's lines are exactly those of the tables
     ensures read { IfOk result (IsRead (option_copied machine.entry) text.now) }
     ensures told { IfErr result (Explains (option_copied machine.entry) text.now) }
-    // A section of valid arrays is read.
-    ensures only { (a : Arrays) → IsRead (option_copied machine.entry) text.now a → IsPrintable a (entries a) → Valid a → MatchResult result (λ t. t ≡ a) (λ e. e ≡ TableFault.Memory) }
+    // A section of valid arrays, whose numbers fit their type, is read.
+    ensures only { (a : Arrays) → IsRead (option_copied machine.entry) text.now a → HasNumbers a → Valid a → MatchResult result (λ t. t ≡ a) (λ e. e ≡ TableFault.Memory) }
 {
     tables_in(alloc, text, machine)
 }

@@ -41,14 +41,18 @@ pub(crate) const HEAD: [Form; 4] = [
     Form::Number(Label::Alphabet),
 ];
 
-/// The lines behind the entries.
-pub(crate) const TAIL: [Form; 28] = [
+/// The lines behind the entries, up to that of uses.
+pub(crate) const FRONT: [Form; 6] = [
     Form::Numbers(ArrayName::Actions),
     Form::Numbers(ArrayName::KeyOffsets),
     Form::Numbers(ArrayName::TransKeys),
     Form::Numbers(ArrayName::SingleLengths),
     Form::Numbers(ArrayName::RangeLengths),
     Form::Numbers(ArrayName::CellOffsets),
+];
+
+/// The lines behind that of uses.
+pub(crate) const BACK: [Form; 22] = [
     Form::Numbers(ArrayName::CellAsks),
     Form::Numbers(ArrayName::CellEntries),
     Form::Numbers(ArrayName::TransTargs),

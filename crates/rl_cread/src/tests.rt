@@ -4,8 +4,8 @@ use rl_arrays::{ArrayName, BadValue};
 use std::alloc::{AllocError, Global};
 use std::test::Fail;
 
-const ONE: [&str; 34] = [
-    "/* rl-data 1 one */",
+/// The lines of the section behind the first one, version 1.
+const ONE: [&str; 33] = [
     "static const int one_start = 1;",
     "static const int one_first_final = 3;",
     "static const int one_error = 0;",
@@ -41,11 +41,13 @@ const ONE: [&str; 34] = [
     "/* rl-end one */",
 ];
 
-/// The lines of the section, the one of this number from 1 changed to another one.
-fn changed(alloc: Global, number: usize, line: &str) -> Result<Vec<u8>, AllocError> {
-    let mut text = Vec::new(alloc);
+/// The lines of the section under this version, the one of this number from 2 changed to another one.
+fn changed(alloc: Global, version: &str, number: usize, line: &str) -> Result<Vec<u8>, AllocError> {
+    let mut text = Vec::from_slice(alloc, b"/* rl-data ")?;
+    text.extend_from_slice(version.as_bytes())?;
+    text.extend_from_slice(b" one */\n")?;
     for i in 0..ONE.len() {
-        if i + 1 == number {
+        if i + 2 == number {
             text.extend_from_slice(line.as_bytes())?;
         } else {
             text.extend_from_slice(ONE[i].as_bytes())?;
@@ -73,7 +75,7 @@ fn bad_text(line: u64) -> Option<TableFault> {
 
 #[test]
 fn the_section_is_read(rt: HostRuntime) -> Result<(), Fail> {
-    let text = changed(rt.alloc(), 0, "")?;
+    let text = changed(rt.alloc(), "1", 0, "")?;
     assert_eq!(rt; fault_of(rt.alloc(), &text, None), None);
     assert_eq!(rt; fault_of(rt.alloc(), &text, Some(b"one")), None);
     assert_eq!(rt;
@@ -88,6 +90,23 @@ fn the_section_is_read(rt: HostRuntime) -> Result<(), Fail> {
 }
 
 #[test]
+fn a_version_says_whether_there_are_uses(rt: HostRuntime) -> Result<(), Fail> {
+    let uses = "static const int _one_cell_offsets[] = { 0, 0, 1, 2 };
+static const int _one_cell_uses[] = { 0, 1, 0 };";
+    let rows = [
+        ("2", 12, uses, None),
+        ("2", 0, "", bad_text(13)),
+        ("1", 12, uses, bad_text(13)),
+        ("3", 0, "", Some(TableFault::NoSection)),
+    ];
+    for (version, number, line, told) in rows {
+        let text = changed(rt.alloc(), version, number, line)?;
+        assert_eq!(rt; fault_of(rt.alloc(), &text, None), told, "{version}");
+    }
+    Ok(())
+}
+
+#[test]
 fn the_first_wrong_line_is_told(rt: HostRuntime) -> Result<(), Fail> {
     let rows = [
         (4, "static const int one_error = 1;", 4),
@@ -96,7 +115,7 @@ fn the_first_wrong_line_is_told(rt: HostRuntime) -> Result<(), Fail> {
         (34, "/* rl-end one */ ", 34),
     ];
     for (number, line, told) in rows {
-        let text = changed(rt.alloc(), number, line)?;
+        let text = changed(rt.alloc(), "1", number, line)?;
         assert_eq!(rt; fault_of(rt.alloc(), &text, None), bad_text(told), "{line}");
     }
     Ok(())
@@ -104,7 +123,7 @@ fn the_first_wrong_line_is_told(rt: HostRuntime) -> Result<(), Fail> {
 
 #[test]
 fn a_missing_line_is_told(rt: HostRuntime) -> Result<(), Fail> {
-    let mut text = changed(rt.alloc(), 0, "")?;
+    let mut text = changed(rt.alloc(), "1", 0, "")?;
     let _newline = text.pop();
     assert_eq!(rt; fault_of(rt.alloc(), &text, None), bad_text(34));
     Ok(())
@@ -148,9 +167,14 @@ fn the_first_wrong_element_is_told(rt: HostRuntime) -> Result<(), Fail> {
             "static const int one_en_main = 2;",
             wrong(ArrayName::EntryStates, 0),
         ),
+        (
+            33,
+            "static const int _one_entry_states[] = { 0 };",
+            wrong(ArrayName::EntryStates, 1),
+        ),
     ];
     for (number, line, told) in rows {
-        let text = changed(rt.alloc(), number, line)?;
+        let text = changed(rt.alloc(), "1", number, line)?;
         assert_eq!(rt; fault_of(rt.alloc(), &text, None), told, "{line}");
     }
     Ok(())

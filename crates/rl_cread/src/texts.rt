@@ -1,10 +1,10 @@
 //! The lines of a text, and where a section begins.
-ghost use Rattle.std.specs.Prelude.{◌≡◌, ◌++◌, ◌==◌, ℕ, List, None, map, drop, IfOk, IfSome, MatchOption, IsSomeAnd, Some, IsTrue, ◌↔◌, slice_get};
+ghost use Rattle.std.specs.Prelude.{◌≡◌, ◌++◌, ◌==◌, ℕ, Bool, List, None, map, drop, IfOk, IfSome, MatchOption, IsSomeAnd, Some, IsTrue, ◌↔◌, slice_get};
 ghost use Rattle.std.specs.List.{slice_split};
 ghost use Rattle.std.specs.Option.{option_copied};
 ghost use Rattle.rl_cread.specs.Sections as section;
 ghost use Rattle.rl_cread.specs.Sections.{IsFirst, Marks};
-ghost use Rattle.rl_cread.specs.Found.{IsFound};
+ghost use Rattle.rl_cread.specs.Found.{front_text, IsFound};
 
 use crate::names::is_name;
 use std::alloc::{AllocError, Global};
@@ -42,13 +42,37 @@ pub(crate) fn between<'a>(text: &'a [u8], front: &[u8], back: &[u8]) -> Option<&
     }
 }
 
-/// The name of the section that a line begins.
-fn name_in(line: &[u8]) -> Option<&[u8]>
-    ensures { MatchOption result ((name : List ℕ) → Marks None line.now name → ⊥) (λ name. Marks None line.now name.now) }
+/// What stands before the name of a section in its first line.
+fn front_text(shared: bool) -> &'static [u8]
+    ensures { result.now ≡ front_text shared }
 {
-    match between(line, b"/* rl-data 1 ", b" */") {
+    if shared {
+        b"/* rl-data 2 "
+    } else {
+        b"/* rl-data 1 "
+    }
+}
+
+/// The name of the section that a line begins, where its keys share cells, or where they do not.
+fn name_in(line: &[u8], shared: bool) -> Option<&[u8]>
+    ensures { MatchOption result ((name : List ℕ) → Marks None line.now shared name → ⊥) (λ name. Marks None line.now shared name.now) }
+{
+    match between(line, front_text(shared), b" */") {
         Some(name) => { if is_name(name) { Some(name) } else { None } }
         None => None,
+    }
+}
+
+/// Whether the keys of the section that a line begins share cells, and its name.
+fn mark_in(line: &[u8]) -> Option<(bool, &[u8])>
+    ensures { MatchOption result ((shared : Bool) (name : List ℕ) → Marks None line.now shared name → ⊥) (λ mark. Marks None line.now mark.0 mark.1.now) }
+{
+    match name_in(line, true) {
+        Some(name) => Some((true, name)),
+        None => match name_in(line, false) {
+            Some(name) => Some((false, name)),
+            None => None,
+        },
     }
 }
 
@@ -59,15 +83,17 @@ pub(crate) fn is_same(text: &[u8], other: &[u8]) -> bool
 }
 
 /// The same, of the machine that is sought.
-fn sought_in<'a>(machine: Option<&[u8]>, line: &'a [u8]) -> Option<&'a [u8]>
-    ensures { MatchOption result ((name : List ℕ) → Marks (option_copied machine.entry) line.now name → ⊥) (λ name. Marks (option_copied machine.entry) line.now name.now) }
+fn sought_in<'a>(machine: Option<&[u8]>, line: &'a [u8]) -> Option<(bool, &'a [u8])>
+    ensures { MatchOption result
+        ((shared : Bool) (name : List ℕ) → Marks (option_copied machine.entry) line.now shared name → ⊥)
+        (λ mark. Marks (option_copied machine.entry) line.now mark.0 mark.1.now) }
 {
-    match name_in(line) {
-        Some(name) => match machine {
-            None => Some(name),
+    match mark_in(line) {
+        Some((shared, name)) => match machine {
+            None => Some((shared, name)),
             Some(word) => {
                 if is_same(word, name) {
-                    Some(name)
+                    Some((shared, name))
                 } else {
                     None
                 }
@@ -99,11 +125,11 @@ pub(crate) fn lines_from<'l, 'a>(lines: &'l [&'a [u8]], from: usize) -> &'l [&'a
     }
 }
 
-/// The name of the section that begins at a line.
-fn section_at<'a>(machine: Option<&[u8]>, lines: &[&'a [u8]], i: usize) -> Option<&'a [u8]>
+/// Whether the keys of the section that begins at a line share cells, and its name.
+fn section_at<'a>(machine: Option<&[u8]>, lines: &[&'a [u8]], i: usize) -> Option<(bool, &'a [u8])>
     ensures { MatchOption result
         (IfSome (slice_get (map (λ line. line.now) lines.now) i) (λ line. IsFirst (option_copied machine.entry) line → ⊥))
-        (λ name. IsSomeAnd (slice_get (map (λ line. line.now) lines.now) i) (λ line. Marks (option_copied machine.entry) line name.now)) }
+        (λ mark. IsSomeAnd (slice_get (map (λ line. line.now) lines.now) i) (λ line. Marks (option_copied machine.entry) line mark.0 mark.1.now)) }
 {
     match line_at(lines, i) {
         Some(line) => sought_in(machine, line),
@@ -111,18 +137,18 @@ fn section_at<'a>(machine: Option<&[u8]>, lines: &[&'a [u8]], i: usize) -> Optio
     }
 }
 
-/// The index of the line at which the first section begins, and its name.
+/// The index of the line at which the first section begins, whether its keys share cells, and its name.
 pub(crate) fn first_section<'a>(
     machine: Option<&[u8]>,
     lines: &[&'a [u8]],
-) -> Option<(usize, &'a [u8])>
+) -> Option<(usize, bool, &'a [u8])>
     ensures { MatchOption result
         ((k : ℕ) → IfSome (slice_get (map (λ line. line.now) lines.now) k) (λ line. IsFirst (option_copied machine.entry) line → ⊥))
-        (λ r. IsFound (option_copied machine.entry) (map (λ line. line.now) lines.now) r.0 r.1.now) }
+        (λ r. IsFound (option_copied machine.entry) (map (λ line. line.now) lines.now) r.0 r.1 r.2.now) }
 {
     for i in 0..lines.len() {
-        if let Some(name) = section_at(machine, lines, i) {
-            return Some((i, name));
+        if let Some((shared, name)) = section_at(machine, lines, i) {
+            return Some((i, shared, name));
         }
     }
     None

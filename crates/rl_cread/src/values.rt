@@ -1,6 +1,8 @@
 //! The tables of a section as it stands, or its first element that is not right.
-ghost use Rattle.std.specs.Prelude.{◌≡◌, ◌↔◌, ◌+◌, ◌-◌, ℕ, ℤ, min, IsTrue, IsSomeAnd, MatchResult, slice_get, length, ◌<◌, ◌^◌};
-ghost use Rattle.rl_arrays.specs.Section.{entries};
+ghost use Rattle.std.specs.Prelude.{◌≡◌, ◌↔◌, ◌+◌, ◌-◌, ℕ, ℤ, IsTrue, IsSomeAnd, MatchResult, slice_get, length, ◌<◌, ◌^◌};
+ghost use Rattle.rl_arrays.specs.Words.{IfAt};
+ghost use Rattle.rl_arrays.specs.Valid.{IsVersioned};
+ghost use Rattle.rl_cread.specs.Sections.{AreEntries};
 ghost use Rattle.rl_cread.specs.Values.{IsEntryAt, IsSound, IsUnsound};
 
 use crate::fault::TableFault;
@@ -10,11 +12,24 @@ use rl_arrays::{ArrayName, BadValue};
 use rl_tables::Tables;
 use rl_types::{List, Name};
 
-/// Whether an entry line has this name and this state.
-fn is_entry(entry: &(Name, i64), name: &Name, state: i64) -> bool
-    ensures { IsTrue result ↔ (entry.now ≡ (name.now, state)) }
+/// Whether an element is missing, or is this number.
+fn is_state(states: &List<i64>, i: usize, number: i64) -> bool
+    ensures { IsTrue result ↔ IfAt states.now i (λ state. number ≡ state) }
 {
-    is_same(entry.0.bytes(), name.bytes()) && entry.1 == state
+    match states.get(i) {
+        Some(state) => number == *state,
+        None => true,
+    }
+}
+
+/// Whether an element is there, and is this name.
+fn is_named(names: &List<Name>, i: usize, word: &Name) -> bool
+    ensures { IsTrue result ↔ IsSomeAnd (slice_get names.now i) (λ name. word.now ≡ name) }
+{
+    match names.get(i) {
+        Some(name) => is_same(word.bytes(), name.bytes()),
+        None => false,
+    }
 }
 
 /// Whether an entry line says what the arrays say of that entry.
@@ -28,31 +43,18 @@ fn is_entry_at(
     ensures { IsTrue result ↔ IsEntryAt entries.now names.now states.now i }
 {
     match entries.get(i) {
-        Some(entry) => match names.get(i + 1) {
-            Some(name) => match states.get(i + 1) {
-                Some(state) => is_entry(entry, name, *state),
-                None => false,
-            },
-            None => false,
-        },
+        Some(entry) => is_named(names, i + 1, &entry.0) && is_state(states, i + 1, entry.1),
         None => false,
     }
 }
 
-/// How many entries the arrays have.
-fn due(names: &List<Name>, states: &List<i64>) -> usize
-    ensures { result ≡ min (length names.now - 1) (length states.now - 1) }
-{
-    names.len().min(states.len()).saturating_sub(1)
-}
-
 /// Whether the entry lines say what the arrays say of entries.
 fn agree(raw: &Raw) -> bool
-    ensures { IsTrue result ↔ (raw.now.entries ≡ entries raw.now.arrays) }
+    ensures { IsTrue result ↔ AreEntries raw.now.arrays raw.now.entries }
 {
     let names = &raw.arrays.entry_names;
     let states = &raw.arrays.entry_states;
-    if raw.entries.len() != due(names, states) {
+    if raw.entries.len() != names.len().saturating_sub(1) {
         return false;
     }
     for i in 0..raw.entries.len() {
@@ -82,6 +84,7 @@ fn is_last_array(array: ArrayName) -> bool
 
 /// The tables of a section, or its first element that is not right. It takes no memory.
 pub(crate) fn tables_of(raw: Raw) -> Result<Tables, TableFault>
+    requires { IsVersioned raw.arrays }
     ensures { MatchResult result (IsSound raw) (IsUnsound raw) }
 {
     let agree = agree(&raw);

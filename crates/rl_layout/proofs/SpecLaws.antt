@@ -7,7 +7,7 @@ use Rattle.std.specs.Ordering.{int_eq}
 use Rattle.std.proofs.lemmas.Option.{slice_get-map, slice_get_within}
 use Rattle.std.proofs.lemmas.Bool.Decides.{nat_tests}
 use Rattle.rl_types.specs.declared.alphabet.Alphabet.{Alphabet}
-use Rattle.rl_types.specs.declared.alphabet.Alphabet.TheVariants.{Char, UnsignedChar}
+use Rattle.rl_types.specs.declared.alphabet.Alphabet.TheVariants.{Char, UnsignedChar, Short, UnsignedShort, Int, UnsignedInt}
 use Rattle.rl_types.specs.declared.numbers.ActionId.{ActionId}
 use Rattle.rl_types.specs.declared.numbers.EntryId.{EntryId}
 use Rattle.rl_run.specs.declared.statements.Statement.{Statement}
@@ -40,6 +40,10 @@ number_is xs i x e = ap (λ o. option_map_or natural o 0) e
 pub alphabet_is : (alphabet : Alphabet) → unwrap_or (alphabet_of (alphabet_number alphabet)) Char ≡ alphabet
 alphabet_is Char = refl
 alphabet_is UnsignedChar = refl
+alphabet_is Short = refl
+alphabet_is UnsignedShort = refl
+alphabet_is Int = refl
+alphabet_is UnsignedInt = refl
 
 -- ---- names
 

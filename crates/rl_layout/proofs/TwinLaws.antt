@@ -7,7 +7,7 @@ use Rattle.std.proofs.lemmas.Option.{slice_get-map}
 use Rattle.std.proofs.lemmas.List.Elements.{recursion_from_All, All-take, All-drop}
 use Rattle.rl_types.specs.declared.numbers.ActionId.{ActionId}
 use Rattle.rl_types.specs.declared.numbers.Key.{Key}
-use Rattle.rl_types.specs.Alphabet.{key_of}
+use Rattle.rl_types.specs.Alphabet.{width_of, key_of}
 use Rattle.rl_fsm.specs.Reads.{asks_at}
 use Rattle.rl_run.specs.Machine.{Machine}
 use Rattle.rl_run.specs.Twin.{Agrees, ListR, GoR, IsTwin}
@@ -218,7 +218,8 @@ module _ (spec : Spec) (m : Minimal) (sound : IsMinimal m) (plain : AllByRecursi
   pub laid_twin : IsTwin before shown renamed Same
   unfolding machine
   laid_twin = record {
-    key_of = λ byte. ap (λ w. key_of w byte) (alphabet_is spec.alphabet);
+    width = ap width_of (alphabet_is spec.alphabet);
+    key_of = λ character. ap (λ w. key_of w character) (alphabet_is spec.alphabet);
     asked = λ q p key e. ap (λ n. asked a n key.0) e ∙ asked_twin q key.0;
     find = λ q p key hold e. subst (λ n. GoR before shown renamed Same (before.find q key hold) (tables.find a n key.0 hold)) (sym e) (find_at q key hold);
     from = λ q p e. subst (λ n. ListR before shown renamed Same (before.from q) (members a.actions (number_at a.from_lists n))) (sym e) (own_list (λ s. s.from) from_listed q);

@@ -13,7 +13,7 @@ use Rattle.rl_arrays.specs.declared.arrays.ArrayName.TheVariants as the
 use Rattle.rl_arrays.specs.Words.{natural, IfAt, sum_before}
 use Rattle.rl_arrays.specs.TableMachine.{asked_bits, entry_number}
 use Rattle.rl_arrays.specs.Sizes as sizes
-use Rattle.rl_arrays.specs.Sizes.{IsClosing, IsEntryOf, cells_end, entries_end, states, one_more, conditions}
+use Rattle.rl_arrays.specs.Sizes.{IsClosing, IsIn, IsEntryOf, cells_end, entries_end, states, one_more, conditions}
 use Rattle.rl_arrays.specs.Rules.{AskSays, CellEntrySays, TargetOf, TargetSays, StepListSays}
 use Rattle.rl_arrays.specs.Valid.{FirstWrong}
 use Rattle.rl_model.specs.declared.spec.Spec.{Spec}
@@ -76,8 +76,8 @@ module _ (spec : Spec) (m : Minimal) (sound : IsMinimal m) (fits : Fits spec m) 
 
   cells_end_is : cells_end a ≡ Some (pos (length cells))
   cells_end_is =
-      ap (sum_before (sizes.cells_of a)) (states_are spec lists order m sound)
-      ∙ sum_is (sizes.cells_of a) cells_in m.states (cell_widths spec lists order m sound) (length m.states) (omega arith) ∙ ap (λ k. Some (pos k)) (begins_all cells_in m.states)
+      ap (sum_before (sizes.uses_of a)) (states_are spec lists order m sound)
+      ∙ sum_is (sizes.uses_of a) cells_in m.states (cell_widths spec lists order m sound) (length m.states) (omega arith) ∙ ap (λ k. Some (pos k)) (begins_all cells_in m.states)
 
   steps_are : flat_map steps_of m.states ≡ flat_map steps_in cells
   steps_are = cells_flat_map steps_in m.states
@@ -190,7 +190,8 @@ module _ (spec : Spec) (m : Minimal) (sound : IsMinimal m) (fits : Fits spec m) 
   pub step_of_state : (q n : ℕ) (o : Option MinEdge) → slice_get steps n ≡ Some o → IsEntryOf a q n → StepOf q o
   step_of_state q n o e h =
       let less : q < length m.states = subst (λ k. q < k) (states_are spec lists order m sound) h.state in
-      let c = place_of (sizes.cells_of a) cells_in m.states (cell_widths spec lists order m sound) q h.cell less h.of_state in
+      let own : IsIn (sizes.uses_of a) q h.cell = subst (IsIn (sizes.uses_of a) q) (some_pos h.place h.cell h.of_use) h.of_state in
+      let c = place_of (sizes.uses_of a) cells_in m.states (cell_widths spec lists order m sound) q h.cell less own in
       let one = element (cells_in c.thing) c.inner c.within in
       let p = at_map (cell c.thing) (ordered_of c.thing) c.inner one.0 one.1 in
       let there : slice_get cells h.cell ≡ Some one.0 = ap (slice_get cells) c.place_is ∙ in_segment cells_in m.states q c.inner c.thing one.0 c.there one.1 in
@@ -260,7 +261,8 @@ module _ (spec : Spec) (m : Minimal) (sound : IsMinimal m) (fits : Fits spec m) 
   pub not_of_state : (q n : ℕ) → n ≡ length steps → IsEntryOf a q n → ⊥
   not_of_state q n z h =
       let less : q < length m.states = subst (λ k. q < k) (states_are spec lists order m sound) h.state in
-      let c = place_of (sizes.cells_of a) cells_in m.states (cell_widths spec lists order m sound) q h.cell less h.of_state in
+      let own : IsIn (sizes.uses_of a) q h.cell = subst (IsIn (sizes.uses_of a) q) (some_pos h.place h.cell h.of_use) h.of_state in
+      let c = place_of (sizes.uses_of a) cells_in m.states (cell_widths spec lists order m sound) q h.cell less own in
       let one = element (cells_in c.thing) c.inner c.within in
       let there : slice_get cells h.cell ≡ Some one.0 = ap (slice_get cells) c.place_is ∙ in_segment cells_in m.states q c.inner c.thing one.0 c.there one.1 in
       let d = place_of (sizes.entries_of a) steps_in cells entry_widths h.cell n (slice_get_within cells h.cell one.0 there) h.of_cell in

@@ -8,7 +8,7 @@ use Rattle.std.proofs.lemmas.List.{length-map}
 use Rattle.std.proofs.lemmas.List.Elements.{recursion_from_All}
 use Rattle.std.proofs.lemmas.Int.{ints}
 use Rattle.rl_types.specs.declared.alphabet.Alphabet.{Alphabet}
-use Rattle.rl_types.specs.declared.alphabet.Alphabet.TheVariants.{Char, UnsignedChar}
+use Rattle.rl_types.specs.declared.alphabet.Alphabet.TheVariants.{Char, UnsignedChar, Short, UnsignedShort, Int, UnsignedInt}
 use Rattle.rl_types.specs.declared.numbers.ActionId.{ActionId}
 use Rattle.rl_types.specs.Alphabet.{has_key}
 use Rattle.rl_fsm.proofs.PieceLaws.{before_or_not}
@@ -46,6 +46,10 @@ use Rattle.rl_layout.proofs.ValidCells.{data_of}
 alphabet_told : (alphabet : Alphabet) → alphabet_of (alphabet_number alphabet) ≡ Some alphabet
 alphabet_told Char = refl
 alphabet_told UnsignedChar = refl
+alphabet_told Short = refl
+alphabet_told UnsignedShort = refl
+alphabet_told Int = refl
+alphabet_told UnsignedInt = refl
 
 -- the ends of ranges: of each its low and its high
 pub record EndOf (ranges : List Run) (p : ℕ) (x : ℤ) : Type 0 where

@@ -1,8 +1,8 @@
 -- The arrays of a machine are valid, where its Spec is well-formed and it keeps to the Spec.
-use Rattle.std.proofs.Common.{None}
+use Rattle.std.proofs.Common.{None, arith}
 use Rattle.rl_arrays.specs.declared.arrays.ArrayName.{ArrayName}
 use Rattle.rl_arrays.specs.declared.arrays.ArrayName.TheVariants as the
-use Rattle.rl_arrays.specs.Valid.{FirstWrong, Valid}
+use Rattle.rl_arrays.specs.Valid.{FirstWrong, IsVersioned, Valid}
 use Rattle.rl_model.specs.declared.spec.Spec.{Spec}
 use Rattle.rl_model.specs.WellFormed.{IsWellFormed}
 use Rattle.rl_minimal.specs.Minimal.{Minimal}
@@ -10,7 +10,7 @@ use Rattle.rl_minimal.specs.Sound.{IsMinimal}
 use Rattle.rl_layout.specs.Books.{lists_of, order_of}
 use Rattle.rl_layout.specs.Layout.{arrays_laid, arrays_of}
 use Rattle.rl_layout.specs.Fits.{Fits}
-use Rattle.rl_layout.proofs.ValidBase.{key_offsets_right, cell_offsets_right, single_lengths_right, range_lengths_right, kinds_right, homes_right}
+use Rattle.rl_layout.proofs.ValidBase.{key_offsets_right, cell_offsets_right, cell_uses_right, single_lengths_right, range_lengths_right, kinds_right, homes_right, le_pos}
 use Rattle.rl_layout.proofs.ValidLists.{actions_right, from_right, to_right, eof_right, error_right, token_right}
 use Rattle.rl_layout.proofs.ValidCells.{asks_right, cell_entries_right, targets_right, step_lists_right}
 use Rattle.rl_layout.proofs.ValidNames.{action_names_right, cond_names_right, entry_names_right, entry_states_right}
@@ -25,6 +25,7 @@ module _ (spec : Spec) (m : Minimal) (sound : IsMinimal m) (well : IsWellFormed 
   each the.SingleLengths = single_lengths_right spec (lists_of m.states) (order_of (lists_of m.states)) m sound
   each the.RangeLengths = range_lengths_right spec (lists_of m.states) (order_of (lists_of m.states)) m sound
   each the.CellOffsets = cell_offsets_right spec (lists_of m.states) (order_of (lists_of m.states)) m sound
+  each the.CellUses = cell_uses_right spec (lists_of m.states) (order_of (lists_of m.states)) m sound
   each the.CellAsks = asks_right spec m sound fits
   each the.CellEntries = cell_entries_right spec m sound fits
   each the.TransTargs = targets_right spec m sound fits
@@ -47,6 +48,9 @@ module _ (spec : Spec) (m : Minimal) (sound : IsMinimal m) (well : IsWellFormed 
   each the.EntryNames = entry_names_right spec m sound well fits
   each the.EntryStates = entry_states_right spec m sound well fits
 
+  version : IsVersioned (arrays_laid spec (lists_of m.states) (order_of (lists_of m.states)) m)
+  version = (le_pos 1 1 (omega arith), le_pos 1 2 (omega arith))
+
   pub arrays_valid : Valid (arrays_of spec m)
   unfolding arrays_of
-  arrays_valid = record { each = each }
+  arrays_valid = record { version = version; each = each }

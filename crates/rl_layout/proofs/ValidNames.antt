@@ -9,7 +9,7 @@ use Rattle.std.proofs.lemmas.List.{length-map}
 use Rattle.std.proofs.lemmas.List.Elements.{recursion_from_All}
 use Rattle.std.proofs.lemmas.Bool.{cases_eq}
 use Rattle.rl_types.specs.declared.alphabet.Alphabet.{Alphabet}
-use Rattle.rl_types.specs.declared.alphabet.Alphabet.TheVariants.{Char, UnsignedChar}
+use Rattle.rl_types.specs.declared.alphabet.Alphabet.TheVariants.{Char, UnsignedChar, Short, UnsignedShort, Int, UnsignedInt}
 use Rattle.rl_types.specs.declared.numbers.ActionId.{ActionId}
 use Rattle.rl_sets.specs.Sets.{In}
 use Rattle.rl_automata.specs.Refused.{AreDifferent}
@@ -187,9 +187,13 @@ module _ (spec : Spec) (m : Minimal) (sound : IsMinimal m) (well : IsWellFormed 
       let p = at_map pos m.entries (start_place spec.entries) x here in
       ap (λ o. pos (unwrap_or o 0)) p.1 ∙ sym p.2)
 
-  alphabet_says : (alphabet : Alphabet) → IsBetween 0 1 (alphabet_number alphabet)
-  alphabet_says Char = (le_pos 0 0 (omega arith), le_pos 0 1 (omega arith))
-  alphabet_says UnsignedChar = (le_pos 0 1 (omega arith), le_pos 1 1 (omega arith))
+  alphabet_says : (alphabet : Alphabet) → IsBetween 0 5 (alphabet_number alphabet)
+  alphabet_says Char = (le_pos 0 0 (omega arith), le_pos 0 5 (omega arith))
+  alphabet_says UnsignedChar = (le_pos 0 1 (omega arith), le_pos 1 5 (omega arith))
+  alphabet_says Short = (le_pos 0 2 (omega arith), le_pos 2 5 (omega arith))
+  alphabet_says UnsignedShort = (le_pos 0 3 (omega arith), le_pos 3 5 (omega arith))
+  alphabet_says Int = (le_pos 0 4 (omega arith), le_pos 4 5 (omega arith))
+  alphabet_says UnsignedInt = (le_pos 0 5 (omega arith), le_pos 5 5 (omega arith))
 
   head_right : HeadRight a
   head_right = record {

@@ -21,7 +21,7 @@ use Rattle.rl_arrays.specs.declared.arrays.ArrayName.TheVariants as the
 use Rattle.rl_arrays.specs.Words.{natural, number_at, IsBetween, sum_before}
 use Rattle.rl_arrays.specs.Lists.{members}
 use Rattle.rl_arrays.specs.TableMachine.{asked_bits, entry_number}
-use Rattle.rl_arrays.specs.Statements.{kind_of, names_entry, outer_kinds, up_to_end}
+use Rattle.rl_arrays.specs.Statements.{kind_of, ends_list, names_entry, outer_kinds, up_to_end}
 use Rattle.rl_arrays.specs.Sizes as sizes
 use Rattle.rl_arrays.specs.Sizes.{IsEntryOf, statements_end, one_more}
 use Rattle.rl_arrays.specs.Rules.{IsListed, HasKind, FirstSays, CountSays, StatementSays, MarkSays, ArgumentSays, BaseSays}
@@ -31,6 +31,7 @@ use Rattle.rl_model.specs.declared.spec.ActionDef.{ActionDef}
 use Rattle.rl_model.specs.declared.spec.Entry.{Entry}
 use Rattle.rl_model.specs.declared.spec.Spec.{Spec}
 use Rattle.rl_model.specs.Specification.{Action, action_of, specification_of, numbered}
+use Rattle.rl_model.specs.WellFormed as W
 use Rattle.rl_model.specs.WellFormed.{IsWellFormed, IsNumber, HasNoStatement, outer_statements, all_statements}
 use Rattle.rl_minimal.specs.declared.state.MinEdge.{MinEdge}
 use Rattle.rl_minimal.specs.declared.state.MinState.{MinState}
@@ -77,21 +78,38 @@ base_within P = (le_pos 0 1 (omega arith), le_pos 1 3 (omega arith))
 base_within Ts = (le_pos 0 2 (omega arith), le_pos 2 3 (omega arith))
 base_within Te = (le_pos 0 3 (omega arith), le_pos 3 3 (omega arith))
 
--- the outer statements
-outer_are : (ss : List Statement) → outer_kinds (map (element_of of.Kind) ss) (map (element_of of.Outer) ss) ≡ map (λ (s : Statement). s.kind) (filter (λ (s : Statement). s.outer) ss)
+-- the outer statements, by the numbers of their kinds
+outer_are : (ss : List Statement) → outer_kinds (map (element_of of.Kind) ss) (map (element_of of.Outer) ss)
+    ≡ map kind_number (map (λ (s : Statement). s.kind) (filter (λ (s : Statement). s.outer) ss))
 outer_are [] = refl
-outer_are (s ∷ ss) = by s.outer ∙ ap (λ w. cond s.outer (s.kind ∷ w) w) (outer_are ss) ∙ picked s.outer
+outer_are (s ∷ ss) = by s.outer ∙ ap (λ w. cond s.outer (kind_number s.kind ∷ w) w) (outer_are ss) ∙ picked s.outer
   where
-    rest : List StatementKind
+    rest : List ℤ
     rest = outer_kinds (map (element_of of.Kind) ss) (map (element_of of.Outer) ss)
 
-    by : (b : Bool) → cons_option (cond (int_eq (cond b (pos 1) (pos 0)) (pos 1)) (kind_of (kind_number s.kind)) None) rest ≡ cond b (s.kind ∷ rest) rest
-    by true = ap (λ o. cons_option o rest) (same_kind s.kind)
+    others : List Statement
+    others = filter (λ (s : Statement). s.outer) ss
+
+    by : (b : Bool) → cons_option (cond (int_eq (cond b (pos 1) (pos 0)) (pos 1)) (Some (kind_number s.kind)) None) rest ≡ cond b (kind_number s.kind ∷ rest) rest
+    by true = refl
     by false = refl
 
-    picked : (b : Bool) → cond b (s.kind ∷ map (λ (s : Statement). s.kind) (filter (λ (s : Statement). s.outer) ss)) (map (λ (s : Statement). s.kind) (filter (λ (s : Statement). s.outer) ss)) ≡ map (λ (s : Statement). s.kind) (cond b (s ∷ filter (λ (s : Statement). s.outer) ss) (filter (λ (s : Statement). s.outer) ss))
+    picked : (b : Bool) → cond b (kind_number s.kind ∷ map kind_number (map (λ (s : Statement). s.kind) others)) (map kind_number (map (λ (s : Statement). s.kind) others))
+        ≡ map kind_number (map (λ (s : Statement). s.kind) (cond b (s ∷ others) others))
     picked true = refl
     picked false = refl
+
+-- by their numbers as many kinds stand up to the first that ends a list
+ends_alike : (ks : List StatementKind) → length (up_to_end (map kind_number ks)) ≡ length (W.up_to_end ks)
+ends_alike [] = refl
+ends_alike (k ∷ ks) =
+    (λ i. length (cond (option_map_or ends_list (same_kind k i) false) (kind_number k ∷ []) (kind_number k ∷ up_to_end (map kind_number ks))))
+    ∙ by (ends_list k) (ends_alike ks)
+  where
+    by : (b : Bool) → length (up_to_end (map kind_number ks)) ≡ length (W.up_to_end ks)
+        → length (cond b (kind_number k ∷ []) (kind_number k ∷ up_to_end (map kind_number ks))) ≡ length (cond b (k ∷ []) (k ∷ W.up_to_end ks))
+    by true same = refl
+    by false same = ap suc same
 
 -- an element that a list has stands at a place
 contained : (xs : List ℕ) (x : ℕ) → Contains xs x → (i : ℕ) × (slice_get xs i ≡ Some x)
@@ -336,7 +354,7 @@ module _ (spec : Spec) (m : Minimal) (sound : IsMinimal m) (well : IsWellFormed 
       path =
           ap (λ k. length (up_to_end (outer_kinds (take (count n) (drop k a.stmt_kinds)) (take (count n) (drop k a.stmt_outer))))) (first_at i n there)
           ∙ (λ j. length (up_to_end (outer_kinds (taken (element_of of.Kind) i n there j) (taken (element_of of.Outer) i n there j))))
-          ∙ ap (λ w. length (up_to_end w)) (outer_are (own n))
+          ∙ ap (λ w. length (up_to_end w)) (outer_are (own n)) ∙ ends_alike (map (λ (s : Statement). s.kind) (filter (λ (s : Statement). s.outer) (own n)))
 
   no_count : (n : ℕ) → own n ≡ [] → pos (count n) ≡ pos 0
   no_count n e = ap (λ (ss : List Statement). pos (length ss)) e

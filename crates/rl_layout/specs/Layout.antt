@@ -78,6 +78,7 @@ ends_laid spec m = record {
 
 abbrev pub gathered : List ℤ → Ends → Names → Keys → Cells → States → Statements → Arrays
 gathered actions ends names keys cells states statements = record {
+  version = pos 1;
   name = names.machine;
   start = ends.start;
   first_final = ends.first_final;
@@ -88,6 +89,7 @@ gathered actions ends names keys cells states statements = record {
   single_lengths = keys.singles;
   range_lengths = keys.ranges;
   cell_offsets = cells.offsets;
+  cell_uses = [];
   cell_asks = cells.asks;
   cell_entries = cells.entries;
   trans_targs = cells.targets;

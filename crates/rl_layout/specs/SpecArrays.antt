@@ -4,7 +4,7 @@ use Rattle.std.specs.Option.{option_map_or}
 use Rattle.std.specs.List.{position}
 use Rattle.std.specs.Str.{bytes_eq}
 use Rattle.rl_types.specs.declared.alphabet.Alphabet.{Alphabet}
-use Rattle.rl_types.specs.declared.alphabet.Alphabet.TheVariants.{Char, UnsignedChar}
+use Rattle.rl_types.specs.declared.alphabet.Alphabet.TheVariants.{Char, UnsignedChar, Short, UnsignedShort, Int, UnsignedInt}
 use Rattle.rl_types.specs.declared.numbers.EntryId.{EntryId}
 use Rattle.rl_run.specs.declared.statements.Statement.{Statement}
 use Rattle.rl_run.specs.declared.statements.StatementKind.{StatementKind}
@@ -51,6 +51,10 @@ element_of the.Base s = base_number s.base
 abbrev pub alphabet_number : Alphabet → ℤ
 alphabet_number Char = pos 0
 alphabet_number UnsignedChar = pos 1
+alphabet_number Short = pos 2
+alphabet_number UnsignedShort = pos 3
+alphabet_number Int = pos 4
+alphabet_number UnsignedInt = pos 5
 
 -- the entry `main`, or the first one where none has that name, from 0
 abbrev pub start_place : List Entry → ℕ

@@ -190,6 +190,10 @@ fn alphabet_number(alphabet: Alphabet) -> i64
     match alphabet {
         Alphabet::Char => 0,
         Alphabet::UnsignedChar => 1,
+        Alphabet::Short => 2,
+        Alphabet::UnsignedShort => 3,
+        Alphabet::Int => 4,
+        Alphabet::UnsignedInt => 5,
     }
 }
 
@@ -206,8 +210,9 @@ fn lay_ends(alloc: Global, spec: &Spec, min: &MinFsm) -> Result<Ends, Memory>
     })
 }
 
-// All arrays.
+// All arrays, in version 1.
 fn gather(
+    alloc: Global,
     actions: List<i64>,
     ends: Ends,
     names: Names,
@@ -219,6 +224,7 @@ fn gather(
     ensures { result ≡ gathered actions ends names keys cells states statements }
 {
     Arrays {
+        version: 1,
         name: names.machine,
         start: ends.start,
         first_final: ends.first_final,
@@ -229,6 +235,7 @@ fn gather(
         single_lengths: keys.singles,
         range_lengths: keys.ranges,
         cell_offsets: cells.offsets,
+        cell_uses: List::new(alloc),
         cell_asks: cells.asks,
         cell_entries: cells.entries,
         trans_targs: cells.targets,
@@ -272,7 +279,7 @@ fn lay_rest(
     let cells = lay_cells(alloc, lists, states)?;
     let own = lay_states(alloc, lists, states)?;
     let statements = lay_statements(alloc, spec.actions.as_slice(), order)?;
-    Ok(gather(actions, ends, names, keys, cells, own, statements))
+    Ok(gather(alloc, actions, ends, names, keys, cells, own, statements))
 }
 
 // The arrays.

@@ -1,16 +1,15 @@
 -- The letters of an alphabet stand in order, and all are there.
-use Rattle.std.proofs.Common.{◌≡◌, ℕ, zero, suc, ◌+◌, ◌-◌, ◌<◌, ◌≤◌, ℤ, ◌<ℤ◌, ◌≤ℤ◌, pos, negsuc, Bool, true, false, cond, ◌&&◌, List, [], ◌∷◌, ◌++◌, ◌⊎◌, map, IsTrue, nat_lt, int_le, refl, ap, sym, ◌∙◌, subst, inl, inr, arith, true≢false}
-use Rattle.std.specs.List.{flat_map, range_with_len}
+use Rattle.std.proofs.Common.{◌≡◌, ℕ, zero, suc, ◌+◌, ◌<◌, ◌≤◌, ℤ, ◌<ℤ◌, List, [], ◌∷◌, ◌++◌, ◌⊎◌, map, IsTrue, refl, sym, ◌∙◌, subst, inl, inr, arith}
+use Rattle.std.specs.List.{AllByRecursion, flat_map, range_with_len}
 use Rattle.std.proofs.lemmas.Int.{ints}
-use borrow.Author.Tests.{lt-ltb, ltb-true}
 use Rattle.rl_types.specs.declared.numbers.Key.{Key}
 use Rattle.rl_types.specs.declared.alphabet.Alphabet.{Alphabet}
-use Rattle.rl_types.specs.declared.alphabet.Alphabet.TheVariants.{Char, UnsignedChar}
-use Rattle.rl_types.specs.Alphabet.{key_of, has_key, least_key, greatest_key}
+use Rattle.rl_types.specs.Alphabet.{has_key, keys_of}
+use Rattle.rl_types.proofs.KeyLaws.{Ascend, keys_ascend, keys_to}
+use Rattle.rl_types.proofs.KeyLaws as key_laws
 use Rattle.rl_sets.specs.Sets.{In}
-use Rattle.rl_sets.proofs.SetLaws.{In-append_left, In-append_right, In-append_cases, In-map, In-map_from, In-flat_map, In-flat_map_from}
-use Rattle.rl_run.specs.Numbers.{bytes_by_key, letters_of}
-use Rattle.rl_fsm.proofs.PieceLaws.{le_from}
+use Rattle.rl_sets.proofs.SetLaws.{In-append_cases, In-map, In-map_from, In-flat_map, In-flat_map_from}
+use Rattle.rl_run.specs.Numbers.{letters_of}
 use Rattle.rl_min.proofs.WalkLaws.{in_range_from, in_range_to}
 
 -- a lower key, or the same key and lesser truths
@@ -62,136 +61,54 @@ row_ordered key a (suc n) = (
   row_ordered key (a + 1) n,
 )
 
--- ---- the letters of some bytes
+-- ---- the letters of some keys
 
-module _ (alphabet : Alphabet) where
-  abbrev rows : ℕ → List ℕ → List (Key × ℕ)
-  rows n bytes = flat_map (λ byte. map (λ truths. (key_of alphabet byte, truths)) (range_with_len 0 n)) bytes
+abbrev at_key : ℤ → Key
+at_key key = record { 0 = key }
 
-  abbrev IsLower : ℕ → ℕ → Type 0
-  IsLower b c = (key_of alphabet b).0 <ℤ (key_of alphabet c).0
+abbrev row : ℕ → ℤ → List (Key × ℕ)
+row n key = map (letter (at_key key)) (range_with_len 0 n)
 
-  -- each byte's key is lower than those of all later ones
-  KeysAscend : List ℕ → Type 0
-  KeysAscend [] = Unit {0}
-  KeysAscend (b ∷ bs) = ((c : ℕ) → In c bs → IsLower b c) × KeysAscend bs
+abbrev rows : ℕ → List ℤ → List (Key × ℕ)
+rows n keys = flat_map (row n) keys
 
-  rows_ordered : (n : ℕ) (bytes : List ℕ) → KeysAscend bytes → AreOrdered (rows n bytes)
-  unfolding KeysAscend
-  rows_ordered n [] a = tt
-  rows_ordered n (b ∷ bs) a =
-      ordered_append (map (letter (key_of alphabet b)) (range_with_len 0 n)) (rows n bs) (row_ordered (key_of alphabet b) 0 n) (rows_ordered n bs a.1) (λ x y i j.
-      let p = In-map_from (letter (key_of alphabet b)) x (range_with_len 0 n) i in
-      let q = In-flat_map_from (λ byte. map (letter (key_of alphabet byte)) (range_with_len 0 n)) y bs j in
-      let r = In-map_from (letter (key_of alphabet q.0)) y (range_with_len 0 n) q.2 in
-      subst (λ w. Before w y) p.2 (subst (Before (letter (key_of alphabet b) p.0)) r.2 (inl (a.0 q.0 q.1))))
+all_in : (P : ℤ → Type 0) (keys : List ℤ) → AllByRecursion P keys → (x : ℤ) → In x keys → P x
+all_in P [] a x i = absurd i
+all_in P (k ∷ keys) a x (inl e) = subst P e a.0
+all_in P (k ∷ keys) a x (inr i) = all_in P keys a.1 x i
 
-  range_ascends : (a n : ℕ) → ((b c : ℕ) → a ≤ b → b < c → c < a + n → IsLower b c) → KeysAscend (range_with_len a n)
-  unfolding KeysAscend
-  range_ascends a zero h = tt
-  range_ascends a (suc n) h = (
-    (λ c i.
-        let r = in_range_from (a + 1) n c i in
-        let low : a + 1 ≤ c = r.0 in
-        let high : c < (a + 1) + n = r.1 in
-        h a c (omega arith) (omega arith) (omega arith)),
-    range_ascends (a + 1) n (λ b c l k u. h b c (omega arith) k (omega arith)),
-  )
+rows_ordered : (n : ℕ) (keys : List ℤ) → Ascend keys → AreOrdered (rows n keys)
+rows_ordered n [] a = tt
+rows_ordered n (k ∷ keys) a =
+    ordered_append (row n k) (rows n keys) (row_ordered (at_key k) 0 n) (rows_ordered n keys a.1) (λ x y i j.
+    let p = In-map_from (letter (at_key k)) x (range_with_len 0 n) i in
+    let q = In-flat_map_from (row n) y keys j in
+    let r = In-map_from (letter (at_key q.0)) y (range_with_len 0 n) q.2 in
+    let above : k <ℤ q.0 = all_in (λ z. k <ℤ z) keys a.0 q.0 q.1 in
+    subst (λ w. Before w y) p.2 (subst (Before (letter (at_key k) p.0)) r.2 (inl above)))
 
-  keys_append : (xs ys : List ℕ) → KeysAscend xs → KeysAscend ys → ((b c : ℕ) → In b xs → In c ys → IsLower b c) → KeysAscend (xs ++ ys)
-  unfolding KeysAscend
-  keys_append [] ys a b h = b
-  keys_append (x ∷ xs) ys a b h = ((λ k i. by k (In-append_cases k xs ys i)), keys_append xs ys a.1 b (λ u v i j. h u v (inr i) j))
-    where
-      by : (k : ℕ) → In k xs ⊎ In k ys → IsLower x k
-      by k (inl i) = a.0 k i
-      by k (inr i) = h x k (inl refl) i
-
--- ---- the bytes
-
-low_key : (b : ℕ) → b < 128 → (key_of Char b).0 ≡ pos b
-low_key b h = ap (λ t. cond t (pos b) (negsuc (255 - b))) (lt-ltb b 128 h)
-
-high_key : (b : ℕ) → 128 ≤ b → (key_of Char b).0 ≡ negsuc (255 - b)
-high_key b h = ap (λ t. cond t (pos b) (negsuc (255 - b))) (no (nat_lt b 128) refl)
-  where
-    no : (t : Bool) → nat_lt b 128 ≡ t → nat_lt b 128 ≡ false
-    no true e = let l : b < 128 = ltb-true b 128 e in absurd (omega arith)
-    no false e = e
-
-below_pos : (b c : ℕ) → b < c → pos b <ℤ pos c
-below_pos b c h = omega (arith, ints)
-
-below_neg : (b c : ℕ) → c < b → negsuc b <ℤ negsuc c
-below_neg b c h = omega (arith, ints)
-
-neg_pos : (b c : ℕ) → negsuc b <ℤ pos c
-neg_pos b c = omega (arith, ints)
-
-lower : (b c : ℕ) (x y : ℤ) → (key_of Char b).0 ≡ x → (key_of Char c).0 ≡ y → x <ℤ y → IsLower Char b c
-lower b c x y e f h = subst (λ z. z <ℤ (key_of Char c).0) (sym e) (subst (λ z. x <ℤ z) (sym f) h)
-
-bytes_ascend : (alphabet : Alphabet) → KeysAscend alphabet (bytes_by_key alphabet)
-bytes_ascend Char =
-    keys_append Char (range_with_len 128 128) (range_with_len 0 128)
-    (range_ascends Char 128 128 (λ b c l k u. lower b c (negsuc (255 - b)) (negsuc (255 - c)) (high_key b l) (high_key c (omega arith)) (below_neg (255 - b) (255 - c) (omega arith))))
-    (range_ascends Char 0 128 (λ b c l k u. lower b c (pos b) (pos c) (low_key b (omega arith)) (low_key c (omega arith)) (below_pos b c k)))
-    (λ b c i j.
-    let p = in_range_from 128 128 b i in
-    let q = in_range_from 0 128 c j in
-    let l : 128 ≤ b = p.0 in
-    let u : c < 0 + 128 = q.1 in
-    lower b c (negsuc (255 - b)) (pos c) (high_key b l) (low_key c (omega arith)) (neg_pos (255 - b) c))
-bytes_ascend UnsignedChar = range_ascends UnsignedChar 0 256 (λ b c l k u. below_pos b c k)
-
-byte_there : (alphabet : Alphabet) (key : ℤ) → least_key alphabet ≤ℤ key → key ≤ℤ greatest_key alphabet → (byte : ℕ) × In byte (bytes_by_key alphabet) × ((key_of alphabet byte).0 ≡ key)
-byte_there Char (pos n) a b =
-    let l : n < 128 = up n b in
-    let z : 0 + n ≡ n = omega arith in
-    (n, In-append_right n (range_with_len 128 128) (range_with_len 0 128) (subst (λ w. In w (range_with_len 0 128)) z (in_range_to 0 128 n l)), low_key n l)
-  where
-    up : (n : ℕ) → pos n ≤ℤ pos 127 → n < 128
-    up n h = omega (arith, ints)
-byte_there Char (negsuc n) a b =
-    let l : n ≤ 127 = down n a in
-    let back : 255 - (128 + (127 - n)) ≡ n = omega arith in
-    (128 + (127 - n), In-append_left (128 + (127 - n)) (range_with_len 128 128) (range_with_len 0 128) (in_range_to 128 128 (127 - n) (omega arith)), high_key (128 + (127 - n)) (omega arith) ∙ ap negsuc back)
-  where
-    down : (n : ℕ) → negsuc 127 ≤ℤ negsuc n → n ≤ 127
-    down n h = omega (arith, ints)
-byte_there UnsignedChar (pos n) a b =
-    let z : 0 + n ≡ n = omega arith in
-    (n, subst (λ w. In w (range_with_len 0 256)) z (in_range_to 0 256 n (up n b)), refl)
-  where
-    up : (n : ℕ) → pos n ≤ℤ pos 255 → n < 256
-    up n h = omega (arith, ints)
-byte_there UnsignedChar (negsuc n) a b = absurd (none n a)
-  where
-    none : (n : ℕ) → pos 0 ≤ℤ negsuc n → ⊥
-    none n h = omega (arith, ints)
+row_there : (n : ℕ) (keys : List ℤ) (key : ℤ) (truths : ℕ) → In key keys → truths < n → In (letter (at_key key) truths) (rows n keys)
+row_there n keys key truths i l =
+    let z : 0 + truths ≡ truths = omega arith in
+    In-flat_map (row n) (letter (at_key key) truths) key keys i
+    (In-map (letter (at_key key)) truths (range_with_len 0 n) (subst (λ w. In w (range_with_len 0 n)) z (in_range_to 0 n truths l)))
 
 -- ---- all letters
 
-letters_are : (alphabet : Alphabet) → letters_of alphabet ≡ rows alphabet 256 (bytes_by_key alphabet)
+letters_are : (alphabet : Alphabet) → letters_of alphabet ≡ rows 256 (keys_of alphabet)
 unfolding letters_of
 letters_are alphabet = refl
 
 pub letters_ordered : (alphabet : Alphabet) → AreOrdered (letters_of alphabet)
-letters_ordered alphabet = subst AreOrdered (sym (letters_are alphabet)) (rows_ordered alphabet 256 (bytes_by_key alphabet) (bytes_ascend alphabet))
+letters_ordered alphabet = subst AreOrdered (sym (letters_are alphabet)) (rows_ordered 256 (keys_of alphabet) (keys_ascend alphabet))
 
-both : (a b : Bool) → (a && b) ≡ true → (a ≡ true) × (b ≡ true)
-both true b e = (refl, e)
-both false b e = absurd (true≢false (sym e))
+same_in : (keys : List ℤ) (key : ℤ) → key_laws.In key keys → In key keys
+same_in [] key i = absurd i
+same_in (k ∷ keys) key (inl e) = inl e
+same_in (k ∷ keys) key (inr i) = inr (same_in keys key i)
 
-row_there : (alphabet : Alphabet) (n : ℕ) (bytes : List ℕ) (byte truths : ℕ) → In byte bytes → truths < n → In (letter (key_of alphabet byte) truths) (rows alphabet n bytes)
-row_there alphabet n bytes byte truths i l =
-    let z : 0 + truths ≡ truths = omega arith in
-    In-flat_map (λ byte. map (letter (key_of alphabet byte)) (range_with_len 0 n)) (letter (key_of alphabet byte) truths) byte bytes i
-    (In-map (letter (key_of alphabet byte)) truths (range_with_len 0 n) (subst (λ w. In w (range_with_len 0 n)) z (in_range_to 0 n truths l)))
-
-pub letter_there : (alphabet : Alphabet) (key : ℤ) (truths : ℕ) → IsTrue (has_key alphabet key) → truths < 256 → In (letter (record { 0 = key }) truths) (letters_of alphabet)
+pub letter_there : (alphabet : Alphabet) (key : ℤ) (truths : ℕ) → IsTrue (has_key alphabet key) → truths < 256
+    → In (letter (at_key key) truths) (letters_of alphabet)
 letter_there alphabet key truths h l =
-    let p = both (int_le (least_key alphabet) key) (int_le key (greatest_key alphabet)) h in
-    let b = byte_there alphabet key (le_from (least_key alphabet) key p.0) (le_from key (greatest_key alphabet) p.1) in
-    subst (λ ls. In (letter (record { 0 = key }) truths) ls) (sym (letters_are alphabet))
-    (subst (λ k. In (letter (record { 0 = k }) truths) (rows alphabet 256 (bytes_by_key alphabet))) b.2 (row_there alphabet 256 (bytes_by_key alphabet) b.0 truths b.1 l))
+    subst (λ ls. In (letter (at_key key) truths) ls) (sym (letters_are alphabet))
+    (row_there 256 (keys_of alphabet) key truths (same_in (keys_of alphabet) key (keys_to alphabet key h)) l)

@@ -169,7 +169,8 @@ module _ (entries : List EntryFsm) (sound : AreSound entries) (met : List Place)
 
   pub made_twin : IsTwin root small (λ a. a) At
   made_twin = record {
-    key_of = λ byte. refl;
+    width = refl;
+    key_of = λ character. refl;
     asked = λ q p key r. same (λ q. root.asked q key) (λ p. small.asked p key) refl
         (told (on_part 0 (λ (s : State). asks_at key.0 (map reads_of s.edges))) (λ o. asks_at key.0 (map L.reads_of (option_map_or (λ (s : MinState). s.edges) o []))) (λ e s. ap (asks_at key.0) (reads_same places e s.edges))) q p r;
     find = λ q p key hold r. finds q p key hold r;

@@ -12,26 +12,26 @@ pub returns-in-Some-clause-read : goal.returns-in-Some-clause-read
 returns-in-Some-clause-read c =
     let same : map (λ l. l.now) c.deref.result.now ≡ lines_of c.args.text.now = ap (map (λ l. l.now)) c.deref.ensures.value ∙ c.in_ok-lines.ensures in
     let also : map (λ l. l.now) c.deref-in-Some.result.now ≡ lines_of c.args.text.now = ap (map (λ l. l.now)) c.deref-in-Some.ensures.value ∙ c.in_ok-lines.ensures in
-    read_result (option_copied c.args.machine) c.args.text.now c.in-Some.name.now c.in-Some.at c.tables_at.result
-    (subst (λ ls. IsFound (option_copied c.args.machine) ls c.in-Some.at c.in-Some.name.now) same c.in-Some.ensures)
-    (subst (λ ls. IfOk c.tables_at.result (IsReadAt c.in-Some.name.now ls c.in-Some.at)) also c.tables_at.ensures.read)
+    read_result (option_copied c.args.machine) c.args.text.now c.in-Some.shared c.in-Some.name.now c.in-Some.at c.tables_at.result
+    (subst (λ ls. IsFound (option_copied c.args.machine) ls c.in-Some.at c.in-Some.shared c.in-Some.name.now) same c.in-Some.ensures)
+    (subst (λ ls. IfOk c.tables_at.result (IsReadAt c.in-Some.shared c.in-Some.name.now ls c.in-Some.at)) also c.tables_at.ensures.read)
 
 pub returns-in-Some-clause-told : goal.returns-in-Some-clause-told
 returns-in-Some-clause-told c =
     let same : map (λ l. l.now) c.deref.result.now ≡ lines_of c.args.text.now = ap (map (λ l. l.now)) c.deref.ensures.value ∙ c.in_ok-lines.ensures in
     let also : map (λ l. l.now) c.deref-in-Some.result.now ≡ lines_of c.args.text.now = ap (map (λ l. l.now)) c.deref-in-Some.ensures.value ∙ c.in_ok-lines.ensures in
-    told_result (option_copied c.args.machine) c.args.text.now c.in-Some.name.now c.in-Some.at c.tables_at.result
-    (subst (λ ls. IsFound (option_copied c.args.machine) ls c.in-Some.at c.in-Some.name.now) same c.in-Some.ensures)
-    (subst (λ ls. IfErr c.tables_at.result (IsRefusedAt c.in-Some.name.now ls c.in-Some.at)) also c.tables_at.ensures.told)
+    told_result (option_copied c.args.machine) c.args.text.now c.in-Some.shared c.in-Some.name.now c.in-Some.at c.tables_at.result
+    (subst (λ ls. IsFound (option_copied c.args.machine) ls c.in-Some.at c.in-Some.shared c.in-Some.name.now) same c.in-Some.ensures)
+    (subst (λ ls. IfErr c.tables_at.result (IsRefusedAt c.in-Some.shared c.in-Some.name.now ls c.in-Some.at)) also c.tables_at.ensures.told)
 
 pub returns-in-Some-clause-only : goal.returns-in-Some-clause-only
 returns-in-Some-clause-only c =
     let same : map (λ l. l.now) c.deref.result.now ≡ lines_of c.args.text.now = ap (map (λ l. l.now)) c.deref.ensures.value ∙ c.in_ok-lines.ensures in
     let also : map (λ l. l.now) c.deref-in-Some.result.now ≡ lines_of c.args.text.now = ap (map (λ l. l.now)) c.deref-in-Some.ensures.value ∙ c.in_ok-lines.ensures in
-    only_result (option_copied c.args.machine) c.args.text.now c.in-Some.name.now c.in-Some.at c.tables_at.result
-    (subst (λ ls. IsFound (option_copied c.args.machine) ls c.in-Some.at c.in-Some.name.now) same c.in-Some.ensures)
-    (subst (λ ls. IfOk c.tables_at.result (IsReadAt c.in-Some.name.now ls c.in-Some.at)) also c.tables_at.ensures.read)
-    (subst (λ ls. IfErr c.tables_at.result (IsRefusedAt c.in-Some.name.now ls c.in-Some.at)) also c.tables_at.ensures.told)
+    only_result (option_copied c.args.machine) c.args.text.now c.in-Some.shared c.in-Some.name.now c.in-Some.at c.tables_at.result
+    (subst (λ ls. IsFound (option_copied c.args.machine) ls c.in-Some.at c.in-Some.shared c.in-Some.name.now) same c.in-Some.ensures)
+    (subst (λ ls. IfOk c.tables_at.result (IsReadAt c.in-Some.shared c.in-Some.name.now ls c.in-Some.at)) also c.tables_at.ensures.read)
+    (subst (λ ls. IfErr c.tables_at.result (IsRefusedAt c.in-Some.shared c.in-Some.name.now ls c.in-Some.at)) also c.tables_at.ensures.told)
 
 pub returns-clause-only : goal.returns-clause-only
 returns-clause-only c = λ a r fits v.
