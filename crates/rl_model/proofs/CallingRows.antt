@@ -7,8 +7,9 @@ use Rattle.rl_automata.specs.Nodes.{Conf}
 use Rattle.rl_automata.specs.Marks.{auto}
 use Rattle.rl_automata.specs.Runs.{letters}
 use Rattle.rl_automata.proofs.MarksLaws.{auto_order}
+use Rattle.rl_types.specs.Alphabet.{characters}
 use Rattle.rl_run.specs.Fine.{weight, tail_weight}
-use Rattle.rl_run.specs.Run.{turns, at_letter, after, ending, at_kept, last_list, last_delivery}
+use Rattle.rl_run.specs.Run.{turns, at_letter, after, at_end as at_input_end, ending, at_kept, last_list, last_delivery}
 use Rattle.rl_run.specs.Turn.{if_goes, deliver, marked, stepped, failed, missed, chosen, if_heard, sought, finished, body, turn}
 use Rattle.rl_run.specs.Chain.{run_on}
 use Rattle.rl_model.specs.Trees.{TestsOf, AreTestsHonest, tree_machine}
@@ -47,7 +48,7 @@ module _ (tests : TestsOf numbers) (honest : AreTestsHonest numbers tests) where
 
   pub returns : seen (tree_machine numbers tests) (with_stack 64) 2 (codes "n12x") calls_and_returns
       ≡ record { calls = does enter 0 110 ∷ does done 3 120 ∷ []; end = ends_final 4 }
-  unfolding every_truths run_on weight tail_weight turns at_letter after ending at_kept last_list last_delivery if_goes deliver marked stepped failed missed chosen if_heard sought finished body turn
+  unfolding characters every_truths run_on weight tail_weight turns at_letter after at_input_end ending at_kept last_list last_delivery if_goes deliver marked stepped failed missed chosen if_heard sought finished body turn
   returns =
       subst (λ test. seen (tree_machine numbers (with_test test)) (with_stack 64) 2 (codes "n12x") calls_and_returns
       ≡ record { calls = does enter 0 110 ∷ does done 3 120 ∷ []; end = ends_final 4 })
@@ -55,7 +56,7 @@ module _ (tests : TestsOf numbers) (honest : AreTestsHonest numbers tests) where
 
   pub returns_late : seen (tree_machine numbers tests) (with_stack 64) 2 (codes "n12") calls_and_returns
       ≡ record { calls = does enter 0 110 ∷ at_end done 3 ∷ []; end = ends_final 3 }
-  unfolding every_truths run_on weight tail_weight turns at_letter after ending at_kept last_list last_delivery if_goes deliver marked stepped failed missed chosen if_heard sought finished body turn
+  unfolding characters every_truths run_on weight tail_weight turns at_letter after at_input_end ending at_kept last_list last_delivery if_goes deliver marked stepped failed missed chosen if_heard sought finished body turn
   returns_late =
       subst (λ test. seen (tree_machine numbers (with_test test)) (with_stack 64) 2 (codes "n12") calls_and_returns
       ≡ record { calls = does enter 0 110 ∷ at_end done 3 ∷ []; end = ends_final 3 })

@@ -93,7 +93,8 @@ module _ (C D : ℕ → Type 0) (A : (e : ℕ) → Part (C e)) (B : (e : ℕ) �
   -- places of entries that follow one another stand for each other
   pub part_twin : IsTwin tree built (λ a. a) At
   part_twin = record {
-    key_of = λ byte. refl;
+    width = refl;
+    key_of = λ character. refl;
     asked = λ q p key r. same_told 0 (λ e s. (A e).auto.asked s key.0) (λ e s. (B e).auto.asked s key.0) (λ e s r. (F e).auto.asked s r key.0) q p r;
     find = λ q p key hold r. same_find key hold q p r;
     from = same_list (λ e s. once ((A e).auto.marks s K.From)) (λ e s. once ((B e).auto.marks s K.From)) (λ e s r. ap once ((F e).auto.marks s r K.From));

@@ -16,8 +16,9 @@ use Rattle.rl_automata.specs.Runs.{letters}
 use Rattle.rl_automata.proofs.Congruence.{some_in, none_in}
 use Rattle.rl_automata.proofs.MarksLaws.{auto_order}
 use Rattle.rl_run.specs.declared.calls.Stop.TheVariants.{ErrorState}
+use Rattle.rl_types.specs.Alphabet.{characters}
 use Rattle.rl_run.specs.Fine.{weight, tail_weight}
-use Rattle.rl_run.specs.Run.{turns, at_letter, after, ending, at_kept, last_list, last_delivery}
+use Rattle.rl_run.specs.Run.{turns, at_letter, after, at_end, ending, at_kept, last_list, last_delivery}
 use Rattle.rl_run.specs.Turn.{if_goes, deliver, marked, stepped, failed, missed, chosen, if_heard, sought, finished, body, turn}
 use Rattle.rl_run.specs.Chain.{run_on}
 use Rattle.rl_model.specs.Trees.{TestsOf, AreTestsHonest, tree_machine}
@@ -59,14 +60,14 @@ module _ (tests : TestsOf without) (honest : AreTestsHonest without tests) where
   with_test live = ((tests.0.0, tests.0.1, live), tt)
 
   pub acts : seen (tree_machine without tests) (with_stack 64) 1 (codes "ac") yes ≡ record { calls = does (codes "A", 1) 0 97 ∷ []; end = ends_final 2 }
-  unfolding every_truths run_on weight tail_weight turns at_letter after ending at_kept last_list last_delivery if_goes deliver marked stepped failed missed chosen if_heard sought finished body turn
+  unfolding characters every_truths run_on weight tail_weight turns at_letter after at_end ending at_kept last_list last_delivery if_goes deliver marked stepped failed missed chosen if_heard sought finished body turn
   acts =
       let values : List (Conf (N.Minus left right) × Bool) = (at (97 ∷ []), true) ∷ (at (97 ∷ 99 ∷ []), true) ∷ [] in
       subst (λ live. seen (tree_machine without (with_test live)) (with_stack 64) 1 (codes "ac") yes ≡ record { calls = does (codes "A", 1) 0 97 ∷ []; end = ends_final 2 })
       (same_values raw.order tests.0.2 (auto_order (N.Minus left right) tests.0) values (ends_a, (ends_ac, tt))) refl
 
   pub is_out : seen (tree_machine without tests) (with_stack 64) 1 (codes "ab") yes ≡ record { calls = does (codes "A", 1) 0 97 ∷ []; end = stops ErrorState 1 }
-  unfolding every_truths run_on weight tail_weight turns at_letter after ending at_kept last_list last_delivery if_goes deliver marked stepped failed missed chosen if_heard sought finished body turn
+  unfolding characters every_truths run_on weight tail_weight turns at_letter after at_end ending at_kept last_list last_delivery if_goes deliver marked stepped failed missed chosen if_heard sought finished body turn
   is_out =
       let values : List (Conf (N.Minus left right) × Bool) = (at (97 ∷ []), true) ∷ (at (97 ∷ 98 ∷ []), false) ∷ [] in
       subst (λ live. seen (tree_machine without (with_test live)) (with_stack 64) 1 (codes "ab") yes ≡ record { calls = does (codes "A", 1) 0 97 ∷ []; end = stops ErrorState 1 })
@@ -156,7 +157,7 @@ module _ (tests : TestsOf both) (honest : AreTestsHonest both tests) where
       let p = (honest.0.2 behind_a (led_reach meet meet.start (letters (97 ∷ [])) begun)).0 e in dead p.0 p.1)
 
   pub gone : seen (tree_machine both tests) (with_stack 64) 1 (codes "a") yes ≡ record { calls = []; end = stops ErrorState 0 }
-  unfolding every_truths run_on weight tail_weight turns at_letter after ending at_kept last_list last_delivery if_goes deliver marked stepped failed missed chosen if_heard sought finished body turn
+  unfolding characters every_truths run_on weight tail_weight turns at_letter after at_end ending at_kept last_list last_delivery if_goes deliver marked stepped failed missed chosen if_heard sought finished body turn
   gone =
       let values : List (Conf (N.And first_operand second_operand) × Bool) = (behind_a, false) ∷ [] in
       subst (λ live. seen (tree_machine both ((tests.0.0, tests.0.1, live), tt)) (with_stack 64) 1 (codes "a") yes ≡ record { calls = []; end = stops ErrorState 0 })

@@ -7,8 +7,9 @@ use Rattle.rl_automata.specs.Runs.{letters}
 use Rattle.rl_automata.specs.Scans.{Pattern, Confs, scan_auto}
 use Rattle.rl_automata.proofs.MarksLaws.{scan_order}
 use Rattle.rl_run.specs.declared.calls.Stop.TheVariants.{ErrorState}
+use Rattle.rl_types.specs.Alphabet.{characters}
 use Rattle.rl_run.specs.Fine.{weight, tail_weight}
-use Rattle.rl_run.specs.Run.{turns, at_letter, after, ending, at_kept, last_list, last_delivery}
+use Rattle.rl_run.specs.Run.{turns, at_letter, after, at_end, ending, at_kept, last_list, last_delivery}
 use Rattle.rl_run.specs.Turn.{if_goes, deliver, marked, stepped, failed, missed, chosen, if_heard, sought, finished, body, turn}
 use Rattle.rl_run.specs.Chain.{run_on}
 use Rattle.rl_automata.specs.Nodes as N
@@ -40,7 +41,7 @@ module _ (tests : TestsOf lookahead) (honest : AreTestsHonest lookahead tests) w
 
   pub backs : seen (tree_machine lookahead tests) (with_stack 64) 1 (codes "aaac") yes
       ≡ record { calls = token a 2 97 0 1 ∷ token a 3 99 1 2 ∷ token a 3 99 2 3 ∷ []; end = stops ErrorState 3 }
-  unfolding every_truths run_on weight tail_weight turns at_letter after ending at_kept last_list last_delivery if_goes deliver marked stepped failed missed chosen if_heard sought finished body turn
+  unfolding characters every_truths run_on weight tail_weight turns at_letter after at_end ending at_kept last_list last_delivery if_goes deliver marked stepped failed missed chosen if_heard sought finished body turn
   backs =
       let values : List (Confs shortly × Bool) = (behind_a, false) ∷ [] in
       subst (λ closed. seen (tree_machine lookahead ((tests.0.0, closed), tt)) (with_stack 64) 1 (codes "aaac") yes
@@ -66,7 +67,7 @@ module _ (tests : TestsOf single) (honest : AreTestsHonest single tests) where
   closed_a = (honest.0.1 matched (led_reach single_scan single_scan.start (letters (codes "a")) begun)).1 (λ l. refl)
 
   pub at_once : seen (tree_machine single tests) (with_stack 64) 1 (codes "aa") yes ≡ record { calls = token a 0 97 0 1 ∷ token a 1 97 1 2 ∷ []; end = ends_final 2 }
-  unfolding every_truths run_on weight tail_weight turns at_letter after ending at_kept last_list last_delivery if_goes deliver marked stepped failed missed chosen if_heard sought finished body turn
+  unfolding characters every_truths run_on weight tail_weight turns at_letter after at_end ending at_kept last_list last_delivery if_goes deliver marked stepped failed missed chosen if_heard sought finished body turn
   at_once =
       let values : List (Confs alone × Bool) = (matched, true) ∷ [] in
       subst (λ closed. seen (tree_machine single ((tests.0.0, closed), tt)) (with_stack 64) 1 (codes "aa") yes
@@ -107,7 +108,7 @@ module _ (tests : TestsOf words) (honest : AreTestsHonest words tests) where
 
   pub tokens : seen (tree_machine words tests) (with_stack 64) 1 (codes "if ifx") yes
       ≡ record { calls = token kw 2 32 0 2 ∷ last_token id 6 3 6 ∷ []; end = ends_final 6 }
-  unfolding every_truths run_on weight tail_weight turns at_letter after ending at_kept last_list last_delivery if_goes deliver marked stepped failed missed chosen if_heard sought finished body turn
+  unfolding characters every_truths run_on weight tail_weight turns at_letter after at_end ending at_kept last_list last_delivery if_goes deliver marked stepped failed missed chosen if_heard sought finished body turn
   tokens =
       let values : List (Confs listed × Bool) =
       (behind (codes "i"), false) ∷ (behind (codes "if"), false) ∷ (behind (codes "ifx"), false) ∷ (behind (codes " "), true) ∷ [] in

@@ -7,7 +7,7 @@ use Rattle.rl_run.specs.declared.calls.Verdict.{Verdict}
 use Rattle.rl_run.specs.declared.sessions.Settings.{Settings}
 use Rattle.rl_run.specs.Machine.{Machine, fresh}
 use Rattle.rl_run.specs.Play.{Log, Reached, ended, stands, run}
-use Rattle.rl_run.specs.Run.{Rest}
+use Rattle.rl_run.specs.Run.{Rest, input_at}
 use Rattle.rl_run.specs.Chain.{run_on}
 use Rattle.rl_run.specs.Twin.{name_of}
 use Rattle.rl_run.specs.Verdict.{verdict_of}
@@ -37,4 +37,4 @@ module _ {S : Type 0} (m : Machine S) where
   -- a whole input, from an entry on, with these answers
   abbrev pub seen : Settings → ℕ → List ℕ → List Answer → Seen
   seen settings e bytes answers =
-      log_seen (run (run_on false m settings (record { base = 0; bytes = bytes; is_closed = true }) (fresh (m.entry e))) answers)
+      log_seen (run (run_on false m settings (input_at m.width 0 bytes true) (fresh (m.entry e))) answers)

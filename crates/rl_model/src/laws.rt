@@ -19,7 +19,8 @@ pub fn followers_run_as_trees()
         (StandsAt (ConfAt spec) (λ e. ℕ) part name) }
     ensures runs { (spec : Specification) (tests : TestsOf spec) (part : ℕ → Part ℕ) (name : (e : ℕ) → ℕ → ConfAt spec e) →
         ((e : ℕ) → PartFollows (part e) (part_of spec tests e) (name e)) →
-        MakeSameRuns (tree_machine spec tests) (machine (λ e. ℕ) part (length spec.entries) (context_of spec)) (λ a. a) }
+        MakeSameRuns (tree_machine spec tests) (machine (λ e. ℕ) part (length spec.entries) (context_of spec)) (λ a. a)
+        (StandsAt (ConfAt spec) (λ e. ℕ) part name) }
 {}
 
 /// The states that runs of a tree machine reach are closed under steps; a step keeps the home, and a home is its own
@@ -35,7 +36,8 @@ pub fn honest_tests_agree()
         IsTwin (tree_machine spec tests) (tree_machine spec others) (λ a. a)
         (StandsAt (ConfAt spec) (ConfAt spec) (part_of spec others) (λ e c. c)) }
     ensures runs { (spec : Specification) (tests others : TestsOf spec) → AreTestsHonest spec tests → AreTestsHonest spec others →
-        MakeSameRuns (tree_machine spec tests) (tree_machine spec others) (λ a. a) }
+        MakeSameRuns (tree_machine spec tests) (tree_machine spec others) (λ a. a)
+        (StandsAt (ConfAt spec) (ConfAt spec) (part_of spec others) (λ e c. c)) }
 {}
 
 /// The tree machine of a well-formed Spec keeps the rules that its tables keep: kinds go along with steps and homes;
