@@ -4,14 +4,14 @@ use Rattle.rl_run.specs.declared.calls.Call.{Call}
 use Rattle.rl_run.specs.declared.calls.Answer.{Answer}
 use Rattle.rl_run.specs.declared.calls.CallKind.TheVariants.{Eof}
 use Rattle.rl_run.specs.declared.calls.Outcome.TheVariants.{Wants, Broke, Stopped}
-use Rattle.rl_run.specs.declared.calls.Stop.TheVariants.{PastEnd}
+use Rattle.rl_run.specs.declared.calls.Stop.TheVariants.{PastEnd, HalfKey}
 use Rattle.rl_run.specs.declared.sessions.Flow.{Flow}
 use Rattle.rl_run.specs.declared.sessions.Flow.TheVariants.{Goes, Jumps, Breaks, Stops}
 use Rattle.rl_run.specs.declared.sessions.Settings.{Settings}
 use Rattle.rl_run.specs.Machine.{Machine, Session}
 use Rattle.rl_run.specs.Picks.{Came, came}
 use Rattle.rl_run.specs.Turn.{calls, turn}
-use Rattle.rl_run.specs.Run.{Input, Rest, rest, letter, after, end_spot, last_delivery, last_list, over, at_kept, ending, end_of, at_letter, turns}
+use Rattle.rl_run.specs.Run.{Input, Rest, rest, letter, after, end_spot, last_delivery, last_list, over, at_kept, ending, at_end, end_of, at_letter, turns}
 use Rattle.rl_run.specs.Play.{Play, done, bind, Plays}
 use Rattle.rl_run.specs.Chain.{run_on}
 use Rattle.rl_run.specs.Fine.{weight}
@@ -91,16 +91,27 @@ module _ {S H : Type 0} (step : H → Call → Answer → H → Type 0) (m : Mac
       go true q = absurd (done_broke step m settings mid t (Some (Stopped PastEnd)) s h (stopped_broke PastEnd) q)
       go false q = on_kept n ih at s h s.kept q
 
+  on_end : (n : ℕ) → GoesOnFrom n → (s : Session S) (h : H) →
+      Plays step h (at_end true m settings input (λ v. turns true m settings input n v) s) mid broken →
+      (j : ℕ) × Plays step h (at_end false m settings input (λ v. turns false m settings input j v) s) last r
+  unfolding at_end
+  on_end n ih s h = go input.has_rest
+    where
+      go : (d : Bool) → Plays step h (cond d (done (rest (Some (Stopped HalfKey)) s)) (ending true m settings (end_of input) s (λ v. turns true m settings input n v))) mid broken →
+          (j : ℕ) × Plays step h (cond d (done (rest (Some (Stopped HalfKey)) s)) (ending false m settings (end_of input) s (λ v. turns false m settings input j v))) last r
+      go true q = absurd (done_broke step m settings mid t (Some (Stopped HalfKey)) s h (stopped_broke HalfKey) q)
+      go false q = on_ending n ih (end_of input) s h q
+
   on_letter : (n : ℕ) → GoesOnFrom n → (s : Session S) (h : H) (l : Option ℕ) →
       Plays step h (at_letter true m settings input (λ v. turns true m settings input n v) s l) mid broken →
       (j : ℕ) × Plays step h (at_letter false m settings input (λ v. turns false m settings input j v) s l) last r
   unfolding at_letter
-  on_letter n ih s h (Some byte) q = on_part n ih (turn m settings s byte) h q
+  on_letter n ih s h (Some character) q = on_part n ih (turn m settings s character) h q
   on_letter n ih s h None q = go input.is_closed q
     where
-      go : (d : Bool) → Plays step h (cond d (ending true m settings (end_of input) s (λ v. turns true m settings input n v)) (done (rest (Some Wants) s))) mid broken →
-          (j : ℕ) × Plays step h (cond d (ending false m settings (end_of input) s (λ v. turns false m settings input j v)) (done (rest (Some Wants) s))) last r
-      go true q = on_ending n ih (end_of input) s h q
+      go : (d : Bool) → Plays step h (cond d (at_end true m settings input (λ v. turns true m settings input n v) s) (done (rest (Some Wants) s))) mid broken →
+          (j : ℕ) × Plays step h (cond d (at_end false m settings input (λ v. turns false m settings input j v) s) (done (rest (Some Wants) s))) last r
+      go true q = on_end n ih s h q
       go false q = absurd (done_broke step m settings mid t (Some Wants) s h wants_broke q)
 
   on : (n : ℕ) → GoesOnFrom n

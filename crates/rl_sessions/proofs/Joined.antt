@@ -1,6 +1,6 @@
 -- Runs on parts of an input are one run.
-use Rattle.std.proofs.Common.{◌≡◌, ℕ, zero, suc, ◌+◌, ◌-◌, ◌^◌, ◌<◌, ◌≤◌, Bool, true, false, cond, List, [], ◌∷◌, ◌++◌, length, drop, Some, None, refl, arith, nat_lt, zero-add}
-use Rattle.std.specs.Prelude.{slice_get}
+use Rattle.std.proofs.Common.{◌≡◌, ℕ, zero, suc, ◌+◌, ◌*◌, ◌-◌, ◌^◌, ◌<◌, ◌≤◌, Bool, true, false, cond, List, [], ◌∷◌, ◌++◌, length, drop, Some, None, refl, sym, ◌∙◌, ap, subst, arith, nat_lt, zero-add}
+use Rattle.std.specs.Prelude.{◌/◌, slice_get}
 use Rattle.std.proofs.lemmas.Bool.Decides.{nat_tests}
 use Rattle.rl_run.specs.declared.calls.Call.{Call}
 use Rattle.rl_run.specs.declared.calls.Answer.{Answer}
@@ -14,14 +14,17 @@ use Rattle.rl_run.specs.Play.{Plays}
 use Rattle.rl_run.specs.Chain.{Played, Extends, run_on}
 use Rattle.rl_run.specs.Fine.{IsKinded, IsFine, weight}
 use Rattle.rl_run.proofs.Cuts.{plays, played, goes_on, stays, on_enough}
-use Rattle.rl_run.proofs.Runs.{plays_wants, letter_none}
+use Rattle.rl_run.proofs.Runs.{plays_wants}
+use Rattle.rl_runner.proofs.Letters.{limit, letter_past}
 use Rattle.rl_runner.specs.Feeds.{window_of}
+use Rattle.rl_types.specs.Alphabet.{characters}
+use Rattle.rl_types.proofs.Characters.{drop-characters, characters_of_front}
 use Rattle.rl_sessions.specs.Joins.{Joins, Comes, RanOver, RunsFrom}
 use Rattle.rl_sessions.specs.Short.{IsShort}
 use Rattle.rl_sessions.proofs.Stands.{turns_stand}
 
 pub extends_through : (a b c : Input) → Extends a b → Extends b c → Extends a c
-extends_through a b c x y p byte e = y p byte (x p byte e)
+extends_through a b c x y p character e = y p character (x p character e)
 
 slice_drop : (xs : List ℕ) (base i b : ℕ) → slice_get (drop base xs) i ≡ Some b → slice_get xs (base + i) ≡ Some b
 slice_drop xs zero i b e = rw zero-add e
@@ -33,30 +36,22 @@ slice_drop (x ∷ xs) (suc base) i b e =
     let here : suc base + i ≡ suc (base + i) = omega arith in
     rw here (slice_drop xs base i b e)
 
-slice_front : (xs ys : List ℕ) (i b : ℕ) → slice_get xs i ≡ Some b → slice_get (xs ++ ys) i ≡ Some b
-slice_front [] ys i b e = absurd (no i e)
-  where
-    no : (i : ℕ) → slice_get [] i ≡ Some b → ⊥
-    no i e = cc
-slice_front (x ∷ xs) ys zero b e = e
-slice_front (x ∷ xs) ys (suc i) b e = slice_front xs ys i b e
-
 -- a part of what is seen
-pub part_extends : (b0 b : ℕ) (xs front behind : List ℕ) → b0 ≤ b → front ++ behind ≡ drop (b - b0) xs → Extends (window_of b front) (window_of b0 xs)
-part_extends b0 b xs front behind low e p byte f = go (nat_lt p b) refl f
+pub part_extends : (width b0 b : ℕ) (xs front behind : List ℕ) → 0 < width → b0 ≤ b → front ++ behind ≡ drop (width * (b - b0)) xs → Extends (window_of width b front) (window_of width b0 xs)
+part_extends width b0 b xs front behind some low e p c f = go (nat_lt p b) refl f
   where
-    go : (t : Bool) → nat_lt p b ≡ t → cond t None (slice_get front (p - b)) ≡ Some byte → letter (window_of b0 xs) p ≡ Some byte
+    go : (t : Bool) → nat_lt p b ≡ t → cond t None (slice_get (characters width front) (p - b)) ≡ Some c → letter (window_of width b0 xs) p ≡ Some c
     go true x f = absurd (no f)
       where
-        no : None ≡ Some byte → ⊥
+        no : None ≡ Some c → ⊥
         no f = cc
     go false x f =
         let within : b ≤ p = grind (arith, nat_tests) in
         let from : nat_lt p b0 ≡ false = grind (arith, nat_tests) in
         let there : p - b0 ≡ (b - b0) + (p - b) = omega arith in
-        let seen = slice_front front behind (p - b) byte f in
-        let inner = rw e at seen in
-        rw (from, there) (slice_drop xs (b - b0) (p - b) byte inner)
+        let seen = characters_of_front width front behind (p - b) c f in
+        let inner = subst (λ cs. slice_get cs (p - b) ≡ Some c) (ap (λ ys. characters width ys) e ∙ sym (drop-characters width (b - b0) xs some)) seen in
+        rw (from, there) (slice_drop (characters width xs) (b - b0) (p - b) c inner)
 
 module _ {S H : Type 0} (step : H → Call → Answer → H → Type 0) (m : Machine S) (settings : Settings) where
   pub as_turns : (b : Bool) (input : Input) (h : H) (s : Session S) (last : H) (r : Rest S) → Plays step h (run_on b m settings input s) last r → Plays step h (turns b m settings input (suc (weight s)) s) last r
@@ -132,19 +127,19 @@ module _ {S H : Type 0} (step : H → Call → Answer → H → Type 0) (m : Mac
     ran_wants p = record { joins = λ whole x. (ran_part Wants p).comes whole x }
 
   -- so a run over what is seen is the run on the whole
-  pub ran_whole : (seen : Input) (xs : List ℕ) (h : H) (s : Session S) (o : Outcome) (last : H) (t : Session S) → IsKinded m → IsFine m s →
-      RanOver step m settings seen h s o last t → Extends seen (window_of 0 xs) → length xs < 2 ^ 63 → (o ≡ Wants → length xs ≤ t.next) →
-      Played step h (run_on false m settings (window_of 0 xs) s) last (rest (Some o) t)
-  ran_whole seen xs h s o last t kinded fine ran extends limit past =
-      let w = go o (ran.comes (window_of 0 xs) extends) past in
-      played step h last (run_on false m settings (window_of 0 xs) s) (rest (Some o) t)
-      (on_enough step m kinded settings false (window_of 0 xs) (omega arith) w.0 s t h last o fine (omega arith) w.1)
+  pub ran_whole : (width : ℕ) (seen : Input) (xs : List ℕ) (h : H) (s : Session S) (o : Outcome) (last : H) (t : Session S) → 0 < width → IsKinded m → IsFine m s →
+      RanOver step m settings seen h s o last t → Extends seen (window_of width 0 xs) → length xs < 2 ^ 63 → (o ≡ Wants → length xs / width ≤ t.next) →
+      Played step h (run_on false m settings (window_of width 0 xs) s) last (rest (Some o) t)
+  ran_whole width seen xs h s o last t some kinded fine ran extends below past =
+      let w = go o (ran.comes (window_of width 0 xs) extends) past in
+      played step h last (run_on false m settings (window_of width 0 xs) s) (rest (Some o) t)
+      (on_enough step m kinded settings false (window_of width 0 xs) (limit width 0 xs false some (omega arith)) w.0 s t h last o fine (omega arith) w.1)
     where
-      go : (o : Outcome) → Comes step m settings (window_of 0 xs) h s o last t → (o ≡ Wants → length xs ≤ t.next) →
-          (j : ℕ) × Plays step h (turns false m settings (window_of 0 xs) j s) last (rest (Some o) t)
+      go : (o : Outcome) → Comes step m settings (window_of width 0 xs) h s o last t → (o ≡ Wants → length xs / width ≤ t.next) →
+          (j : ℕ) × Plays step h (turns false m settings (window_of width 0 xs) j s) last (rest (Some o) t)
       go Wants c past =
           let p = past refl in
-          c.on last (rest (Some Wants) t) 1 (plays_wants step m settings (window_of 0 xs) false 0 t last (letter_none 0 xs false t.next (omega arith)) refl)
+          c.on last (rest (Some Wants) t) 1 (plays_wants step m settings (window_of width 0 xs) false 0 t last (letter_past width 0 xs false t.next (omega arith)) refl)
       go Broke c past = absurd c
       go Ended c past = absurd c
       go (Stopped cause) c past = c

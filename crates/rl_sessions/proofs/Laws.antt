@@ -1,11 +1,12 @@
 -- What a call on one session leaves of the others, for those who put calls together.
-use Rattle.std.proofs.Common.{◌≡◌, ℕ, ◌+◌, Bool, true, false, cond, List, [], ◌∷◌, ◌++◌, map, length, Some, None, refl, sym, ◌∙◌, ap, subst, arith}
+use Rattle.std.proofs.Common.{◌≡◌, ℕ, ◌+◌, ◌*◌, drop, Bool, true, false, cond, List, [], ◌∷◌, ◌++◌, map, length, Some, None, refl, sym, ◌∙◌, ap, subst, arith}
 use Rattle.std.proofs.lemmas.List.{length-drop}
 use Rattle.std.specs.Str.{bytes_eq}
 use Rattle.std.proofs.lemmas.Slice.Eq.{bytes_eq-Decides}
 use Rattle.rl_run.specs.declared.calls.Call.{Call}
 use Rattle.rl_run.specs.declared.calls.Answer.{Answer}
 use Rattle.rl_run.specs.declared.calls.Outcome.{Outcome}
+use Rattle.rl_arrays.specs.TableMachine.{machine}
 use Rattle.rl_sessions.specs.Runs.{TakesPiece}
 use Rattle.rl_sessions.specs.SessionsValue.{SessionValue, SessionsValue, IsWindowOf, started, find, replaced}
 
@@ -92,19 +93,26 @@ first_is name start x e =
     let here : bytes_eq name name ≡ true = (bytes_eq-Decides name name).1 refl in
     sym (found_here (started name start) x (rw here at e))
 
+nothing_dropped : (n : ℕ) (xs : List ℕ) → n ≡ 0 → drop n xs ≡ xs
+nothing_dropped n xs e = subst (λ k. drop k xs ≡ xs) (sym e) refl
+
 -- behind a piece it has no more than the piece
 pub next_is : {H : Type 0} (step : H → Call → Answer → H → Type 0) (h last : H) (name piece : List ℕ) (start : ℕ) (old new : SessionsValue) (o : Outcome) (x : SessionValue) →
-    TakesPiece step h last name old new piece o → old.all ≡ started name start ∷ [] → find name new.all ≡ Some x → x.over ≡ None → x.base + length x.window ≡ length piece
+    TakesPiece step h last name old new piece o → old.all ≡ started name start ∷ [] → find name new.all ≡ Some x → x.over ≡ None →
+    (machine old.tables).width * x.base + length x.window ≡ length piece
 next_is step h last name piece start old new o x taken alone e none =
+    let width = (machine old.tables).width in
     let first : taken.earlier ≡ started name start = first_is name start taken.earlier (subst (λ all. find name all ≡ Some taken.earlier) alone taken.becomes.found) in
     let named : taken.later.name ≡ name = taken.takes.name ∙ ap (λ (y : SessionValue). y.name) first in
     let there : find name new.all ≡ Some taken.later =
     subst (λ (v : SessionsValue). find name v.all ≡ Some taken.later) (sym taken.becomes.others) (replaced_found name old.all taken.earlier taken.later taken.becomes.found named) in
     let same : taken.later ≡ x = found_here taken.later x (sym there ∙ e) in
     let going : taken.earlier.over ≡ None = ap (λ (y : SessionValue). y.over) first in
-    let at_start : IsWindowOf [] taken.earlier = subst (λ y. IsWindowOf [] y) (sym first) (record { within = omega arith; same = refl }) in
-    let ends : IsWindowOf piece taken.later = (taken.takes.going going).window (ap (λ (y : SessionValue). y.over) same ∙ none) [] at_start in
-    let len = length-drop taken.later.base piece in
+    let none_yet : width * 0 ≡ 0 = omega arith in
+    let at_start : IsWindowOf width [] taken.earlier =
+    subst (λ y. IsWindowOf width [] y) (sym first) (record { within = omega arith; same = nothing_dropped (width * 0) [] none_yet }) in
+    let ends : IsWindowOf width piece taken.later = (taken.takes.going going).window (ap (λ (y : SessionValue). y.over) same ∙ none) [] at_start in
+    let len = length-drop (width * taken.later.base) piece in
     let kept = ap length ends.same in
     let within = ends.within in
-    subst (λ (y : SessionValue). y.base + length y.window ≡ length piece) same (omega arith)
+    subst (λ (y : SessionValue). width * y.base + length y.window ≡ length piece) same (omega arith)

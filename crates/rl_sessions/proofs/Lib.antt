@@ -11,3 +11,4 @@ pub mod Rolls
 pub mod Shorts
 pub mod Stands
 pub mod Unbroken
+pub mod Widths

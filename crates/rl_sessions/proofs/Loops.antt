@@ -1,5 +1,5 @@
 -- What the loops behind breaks keep.
-use Rattle.std.proofs.Common.{◌≡◌, ℕ, suc, ◌+◌, ◌<◌, ◌≤◌, ◌^◌, true, false, List, length, drop, Some, ap, sym, subst, arith}
+use Rattle.std.proofs.Common.{◌≡◌, ℕ, suc, ◌+◌, ◌*◌, ◌<◌, ◌≤◌, ◌^◌, Bool, true, false, List, length, drop, Some, ap, sym, subst, arith}
 use Rattle.std.proofs.lemmas.List.{length-drop}
 use Rattle.rl_run.specs.declared.calls.Call.{Call}
 use Rattle.rl_run.specs.declared.calls.Answer.{Answer}
@@ -7,12 +7,13 @@ use Rattle.rl_run.specs.declared.calls.Outcome.{Outcome}
 use Rattle.rl_run.specs.declared.calls.Outcome.TheVariants.{Wants, Broke}
 use Rattle.rl_run.specs.declared.sessions.Settings.{Settings}
 use Rattle.rl_run.specs.Machine.{Machine, Session, keep}
-use Rattle.rl_run.specs.Run.{Input, Rest, rest, end_of}
+use Rattle.rl_run.specs.Run.{Input, Rest, rest, end_of, input_at}
 use Rattle.rl_run.specs.Play.{Play, Plays}
 use Rattle.rl_run.specs.Chain.{Played, run_on}
 use Rattle.rl_run.specs.Fine.{IsKinded, IsFine, weight}
 use Rattle.rl_run.proofs.Cuts.{played, on_enough}
 use Rattle.rl_runner.specs.Feeds.{closed_of}
+use Rattle.rl_runner.proofs.Letters.{limit}
 use Rattle.rl_arrays.specs.declared.arrays.Arrays.{Arrays}
 use Rattle.rl_arrays.specs.TableMachine.{machine}
 use Rattle.rl_sessions.specs.Joins.{RanOver, RunsFrom, RanOut, EndsFrom}
@@ -53,11 +54,11 @@ module _ {S H : Type 0} (step : H → Call → Answer → H → Type 0) (m : Mac
       fine = λ _. behind.fine fine;
       low = low;
       short = (stands seen h s mid Broke t not_closed limit kinded fine behind.short p).1;
-      runs = runs_broke step m settings seen first start h s behind.runs seen not_closed (λ q byte e. e) mid t p;
+      runs = runs_broke step m settings seen first start h s behind.runs seen not_closed (λ q character e. e) mid t p;
     }
 
     pub behind_end : (o : Outcome) → (o ≡ Broke → ⊥) → Played step h (run_on true m settings seen s) mid (rest (Some o) t) → RanOver step m settings seen first start o mid t
-    behind_end o n p = runs_end step m settings seen first start h s behind.runs seen not_closed (λ q byte e. e) mid t kinded fine behind.short limit o n p
+    behind_end o n p = runs_end step m settings seen first start h s behind.runs seen not_closed (λ q character e. e) mid t kinded fine behind.short limit o n p
 
 -- a run over a last window that was broken off so far
 pub record EndsBehind {S H : Type 0} (step : H → Call → Answer → H → Type 0) (m : Machine S) (settings : Settings) (base : ℕ) (window : List ℕ)
@@ -68,51 +69,54 @@ pub record EndsBehind {S H : Type 0} (step : H → Call → Answer → H → Typ
 
 module _ {S H : Type 0} (step : H → Call → Answer → H → Type 0) (m : Machine S) (settings : Settings) (base : ℕ) (window : List ℕ) where
   pub ends_start : (h : H) (s : Session S) → base ≤ keep settings s → EndsBehind step m settings base window h s h s
-  ends_start h s low = record { fine = λ x. x; low = low; ends = record { joins = λ input within same. joins_start step m settings (closed_of 0 input) h s } }
+  ends_start h s low = record { fine = λ x. x; low = low; ends = record { joins = λ input within same. joins_start step m settings (closed_of m.width 0 input) h s } }
 
-  limit_of : (input : List ℕ) → base ≤ length input → drop base input ≡ window → base + length window < 2 ^ 63 → length input < 2 ^ 63
-  limit_of input within same limit =
-      let len = length-drop base input in
+  limit_of : (input : List ℕ) → m.width * base ≤ length input → drop (m.width * base) input ≡ window → m.width * base + length window < 2 ^ 63 → length input < 2 ^ 63
+  limit_of input within same below =
+      let len = length-drop (m.width * base) input in
       let same_len = ap length same in
       omega arith
 
   module _ (first : H) (start : Session S) (h : H) (s : Session S) (mid : H) (t : Session S)
-      (behind : EndsBehind step m settings base window first start h s) (kinded : IsKinded m) (fine : IsFine m s) (limit : base + length window < 2 ^ 63) where
+      (behind : EndsBehind step m settings base window first start h s) (some : 0 < m.width) (kinded : IsKinded m) (fine : IsFine m s) (below : m.width * base + length window < 2 ^ 63) where
     -- on the whole input
-    on_whole : (o : Outcome) → Played step h (run_on true m settings (closed_of base window) s) mid (rest (Some o) t) →
-        (input : List ℕ) → base ≤ length input → drop base input ≡ window → Plays step h (run_on true m settings (closed_of 0 input) s) mid (rest (Some o) t)
+    on_whole : (o : Outcome) → Played step h (run_on true m settings (closed_of m.width base window) s) mid (rest (Some o) t) →
+        (input : List ℕ) → m.width * base ≤ length input → drop (m.width * base) input ≡ window →
+        Plays step h (run_on true m settings (closed_of m.width 0 input) s) mid (rest (Some o) t)
     on_whole o p input within same =
-        run_at_end step m kinded settings base input mid (rest (Some o) t) s h within (limit_of input within same limit) fine behind.low
-        (subst (λ w. Played step h (run_on true m settings (closed_of base w) s) mid (rest (Some o) t)) (sym same) p)
+        run_at_end step m kinded settings m.width base input mid (rest (Some o) t) s h some within (limit_of input within same below) fine behind.low
+        (subst (λ w. Played step h (run_on true m settings (closed_of m.width base w) s) mid (rest (Some o) t)) (sym same) p)
 
-    pub ends_more : base ≤ keep settings t → Played step h (run_on true m settings (closed_of base window) s) mid (rest (Some Broke) t) → EndsBehind step m settings base window first start mid t
+    pub ends_more : base ≤ keep settings t → Played step h (run_on true m settings (closed_of m.width base window) s) mid (rest (Some Broke) t) → EndsBehind step m settings base window first start mid t
     ends_more low p = record {
       fine = λ _. behind.fine fine;
       low = low;
       ends = record {
         joins = λ input within same. record {
           on = λ last r k q.
-              let w = break_goes_on step m settings (closed_of 0 input) mid last t r k q s h (on_whole Broke p input within same) in
+              let w = break_goes_on step m settings (closed_of m.width 0 input) mid last t r k q s h (on_whole Broke p input within same) in
               (behind.ends.joins input within same).on last r w.0 w.1;
         };
       };
     }
 
-    pub ends_whole : (o : Outcome) → (o ≡ Broke → ⊥) → Played step h (run_on true m settings (closed_of base window) s) mid (rest (Some o) t) → RanOut step m settings base window first start o mid t
+    pub ends_whole : (o : Outcome) → (o ≡ Broke → ⊥) → Played step h (run_on true m settings (closed_of m.width base window) s) mid (rest (Some o) t) → RanOut step m settings base window first start o mid t
     ends_whole o n p = record {
       ran = λ input within same.
-          let q = run_unbroken step m settings (closed_of 0 input) mid o t n s h (on_whole o p input within same) in
-          let w = (behind.ends.joins input within same).on mid (rest (Some o) t) (suc (weight s)) (as_turns step m settings false (closed_of 0 input) h s mid (rest (Some o) t) q) in
-          let room = limit_of input within same limit in
-          played step first mid (run_on false m settings (closed_of 0 input) start) (rest (Some o) t)
-          (on_enough step m kinded settings false (closed_of 0 input) (omega arith) w.0 start t first mid o (behind.fine fine) (omega arith) w.1);
+          let q = run_unbroken step m settings (closed_of m.width 0 input) mid o t n s h (on_whole o p input within same) in
+          let w = (behind.ends.joins input within same).on mid (rest (Some o) t) (suc (weight s)) (as_turns step m settings false (closed_of m.width 0 input) h s mid (rest (Some o) t) q) in
+          let room = limit m.width 0 input true some (subst (λ n. n < 2 ^ 63) (omega arith) (limit_of input within same below)) in
+          played step first mid (run_on false m settings (closed_of m.width 0 input) start) (rest (Some o) t)
+          (on_enough step m kinded settings false (closed_of m.width 0 input) room w.0 start t first mid o (behind.fine fine) (omega arith) w.1);
     }
 
 -- the same of tables and settings that are the same
-pub played_of : {H : Type 0} (step : H → Call → Answer → H → Type 0) (input : Input) (a b : Arrays) (x y : Settings) (s : Session ℕ) (h last : H) (r : Rest ℕ) → a ≡ b → x ≡ y →
-    Played step h (run_on true (machine a) x input s) last r → Played step h (run_on true (machine b) y input s) last r
-played_of step input a b x y s h last r e f p =
-    subst (λ v. Played step h (run_on true (machine b) v input s) last r) f (subst (λ v. Played step h (run_on true (machine v) x input s) last r) e p)
+pub played_of : {H : Type 0} (step : H → Call → Answer → H → Type 0) (base : ℕ) (bytes : List ℕ) (is_closed : Bool) (a b : Arrays) (x y : Settings) (s : Session ℕ) (h last : H) (r : Rest ℕ) → a ≡ b → x ≡ y →
+    Played step h (run_on true (machine a) x (input_at (machine a).width base bytes is_closed) s) last r →
+    Played step h (run_on true (machine b) y (input_at (machine b).width base bytes is_closed) s) last r
+played_of step base bytes is_closed a b x y s h last r e f p =
+    subst (λ v. Played step h (run_on true (machine b) v (input_at (machine b).width base bytes is_closed) s) last r) f
+    (subst (λ v. Played step h (run_on true (machine v) x (input_at (machine v).width base bytes is_closed) s) last r) e p)
 
 pub fine_of : (a b : Arrays) (s : Session ℕ) → a ≡ b → IsFine (machine a) s → IsFine (machine b) s
 fine_of a b s e f = subst (λ v. IsFine (machine v) s) e f

@@ -10,7 +10,7 @@ use Rattle.rl_run.specs.declared.sessions.Settings.{Settings}
 use Rattle.rl_run.specs.Machine.{Machine, Session}
 use Rattle.rl_run.specs.Picks.{came}
 use Rattle.rl_run.specs.Turn.{turn}
-use Rattle.rl_run.specs.Run.{Input, Rest, rest, letter, after, ending, end_of, at_letter, turns}
+use Rattle.rl_run.specs.Run.{Input, Rest, rest, letter, after, at_end, end_of, at_letter, turns}
 use Rattle.rl_run.specs.Play.{done, Plays}
 use Rattle.rl_run.specs.Fine.{IsKinded, IsFine, GoesOn, UnlessStops}
 use Rattle.rl_run.proofs.Cuts.{plays_apart, seen_before}
@@ -55,7 +55,7 @@ module _ {S H : Type 0} (step : H → Call → Answer → H → Type 0) (m : Mac
       (leaf (λ c. UnlessStops c.flow (IsShort settings c.session)) step h a.0 (turn m settings s byte) a.1 (turn_short m kinded settings s fine byte) a.2) a.3
   lettered n ih s h fine short None e p = go input.is_closed not_closed p
     where
-      go : (d : Bool) → d ≡ false → Plays step h (cond d (ending true m settings (end_of input) s (λ v. turns true m settings input n v)) (done (rest (Some Wants) s))) last r → Stands m settings r
+      go : (d : Bool) → d ≡ false → Plays step h (cond d (at_end true m settings input (λ v. turns true m settings input n v) s) (done (rest (Some Wants) s))) last r → Stands m settings r
       go true x q = absurd (no x)
         where
           no : true ≡ false → ⊥

@@ -4,14 +4,14 @@ use Rattle.rl_run.specs.declared.calls.Call.{Call}
 use Rattle.rl_run.specs.declared.calls.Answer.{Answer}
 use Rattle.rl_run.specs.declared.calls.Outcome.{Outcome}
 use Rattle.rl_run.specs.declared.calls.Outcome.TheVariants.{Wants, Broke, Stopped}
-use Rattle.rl_run.specs.declared.calls.Stop.TheVariants.{PastEnd}
+use Rattle.rl_run.specs.declared.calls.Stop.TheVariants.{PastEnd, HalfKey}
 use Rattle.rl_run.specs.declared.sessions.Flow.{Flow}
 use Rattle.rl_run.specs.declared.sessions.Flow.TheVariants.{Goes, Jumps, Breaks, Stops}
 use Rattle.rl_run.specs.declared.sessions.Settings.{Settings}
 use Rattle.rl_run.specs.Machine.{Machine, Session}
 use Rattle.rl_run.specs.Picks.{Came, came}
 use Rattle.rl_run.specs.Turn.{turn}
-use Rattle.rl_run.specs.Run.{Input, Rest, rest, letter, after, last_delivery, at_kept, ending, end_of, at_letter, turns}
+use Rattle.rl_run.specs.Run.{Input, Rest, rest, letter, after, last_delivery, at_kept, ending, at_end, end_of, at_letter, turns}
 use Rattle.rl_run.specs.Play.{Play, done, bind, Plays}
 use Rattle.rl_run.specs.Chain.{run_on}
 use Rattle.rl_run.specs.Fine.{weight}
@@ -59,13 +59,22 @@ module _ {S H : Type 0} (step : H → Call → Answer → H → Type 0) (m : Mac
         | false ↦ λ p. kept n ih at s h s.kept p
       ]) p
 
+  at_ended : (n : ℕ) → Same n → (s : Session S) (h : H) →
+      Plays step h (at_end true m settings input (λ v. turns true m settings input n v) s) last end → Plays step h (at_end false m settings input (λ v. turns false m settings input n v) s) last end
+  unfolding at_end
+  at_ended n ih s h p = (elim input.has_rest as (λ b. Plays step h (cond b (done (rest (Some (Stopped HalfKey)) s)) (ending true m settings (end_of input) s (λ v. turns true m settings input n v))) last end →
+      Plays step h (cond b (done (rest (Some (Stopped HalfKey)) s)) (ending false m settings (end_of input) s (λ v. turns false m settings input n v))) last end) [
+        | true ↦ λ p. p
+        | false ↦ λ p. ended n ih (end_of input) s h p
+      ]) p
+
   lettered : (n : ℕ) → Same n → (s : Session S) (h : H) (l : Option ℕ) →
       Plays step h (at_letter true m settings input (λ v. turns true m settings input n v) s l) last end → Plays step h (at_letter false m settings input (λ v. turns false m settings input n v) s l) last end
   unfolding at_letter
-  lettered n ih s h (Some byte) p = joined n ih (turn m settings s byte) h p
-  lettered n ih s h None p = (elim input.is_closed as (λ b. Plays step h (cond b (ending true m settings (end_of input) s (λ v. turns true m settings input n v)) (done (rest (Some Wants) s))) last end →
-      Plays step h (cond b (ending false m settings (end_of input) s (λ v. turns false m settings input n v)) (done (rest (Some Wants) s))) last end) [
-        | true ↦ λ p. ended n ih (end_of input) s h p
+  lettered n ih s h (Some character) p = joined n ih (turn m settings s character) h p
+  lettered n ih s h None p = (elim input.is_closed as (λ b. Plays step h (cond b (at_end true m settings input (λ v. turns true m settings input n v) s) (done (rest (Some Wants) s))) last end →
+      Plays step h (cond b (at_end false m settings input (λ v. turns false m settings input n v) s) (done (rest (Some Wants) s))) last end) [
+        | true ↦ λ p. at_ended n ih s h p
         | false ↦ λ p. p
       ]) p
 

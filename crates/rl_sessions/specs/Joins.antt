@@ -1,5 +1,5 @@
 -- Runs that are put together.
-use Rattle.std.specs.Prelude.{◌≡◌, ℕ, ◌≤◌, false, List, Some, length, drop}
+use Rattle.std.specs.Prelude.{◌≡◌, ℕ, ◌*◌, ◌≤◌, false, List, Some, length, drop}
 use Rattle.rl_run.specs.declared.calls.Answer.{Answer}
 use Rattle.rl_run.specs.declared.calls.Call.{Call}
 use Rattle.rl_run.specs.declared.calls.Outcome.{Outcome}
@@ -37,10 +37,11 @@ pub record RunsFrom {S H : Type 0} (step : H → Call → Answer → H → Type 
 -- the last bytes of an input were run over, and what follows at its end, whatever that input is
 pub record RanOut {S H : Type 0} (step : H → Call → Answer → H → Type 0) (m : Machine S) (settings : Settings) (base : ℕ) (window : List ℕ)
     (h : H) (s : Session S) (outcome : Outcome) (last : H) (t : Session S) : Type 0 where
-  pub ran : (input : List ℕ) → base ≤ length input → drop base input ≡ window →
-      Played step h (run_on false m settings (closed_of 0 input) s) last (rest (Some outcome) t)
+  pub ran : (input : List ℕ) → m.width * base ≤ length input → drop (m.width * base) input ≡ window →
+      Played step h (run_on false m settings (closed_of m.width 0 input) s) last (rest (Some outcome) t)
 
 -- the same, and the run goes on
 pub record EndsFrom {S H : Type 0} (step : H → Call → Answer → H → Type 0) (m : Machine S) (settings : Settings) (base : ℕ) (window : List ℕ)
     (h : H) (s : Session S) (mid : H) (t : Session S) : Type 0 where
-  pub joins : (input : List ℕ) → base ≤ length input → drop base input ≡ window → Joins step m settings (closed_of 0 input) h s mid t
+  pub joins : (input : List ℕ) → m.width * base ≤ length input → drop (m.width * base) input ≡ window →
+      Joins step m settings (closed_of m.width 0 input) h s mid t

@@ -3,6 +3,7 @@ use Rattle.std.specs.Prelude.{◌≡◌, ℕ, ◌<◌, Bool, false, not, List, m
 use Rattle.std.specs.Str.{bytes_eq}
 use Rattle.rl_run.specs.declared.sessions.Settings.{Settings}
 use Rattle.rl_arrays.specs.declared.arrays.Arrays.{Arrays}
+use Rattle.rl_arrays.specs.TableMachine.{machine}
 use Rattle.rl_sessions.specs.declared.one.One.{One}
 use Rattle.rl_sessions.specs.Pieces.{IsReady}
 use Rattle.rl_sessions.specs.SessionsValue.{SessionValue, find, replaced}
@@ -32,7 +33,7 @@ pub record IsOne (arrays : Arrays) (bounds : Settings) (one : One) : Type 0 wher
   pub tables : one.runner.tables ≡ arrays
   pub settings : one.runner.settings ≡ bounds
   pub over : one.runner.over ≡ one.over
-  pub ready : one.over ≡ None → IsReady bounds one.window one.runner.session
+  pub ready : one.over ≡ None → IsReady (machine arrays).width bounds one.window one.runner.session
 
 -- the place of the session of a name, which was not ended
 pub record IsLivePlace (name : List ℕ) (all : List One) (i : ℕ) : Type 0 where

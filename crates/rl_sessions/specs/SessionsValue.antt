@@ -1,5 +1,5 @@
 -- What contracts see of sessions.
-use Rattle.std.specs.Prelude.{◌≡◌, ℕ, ◌≤◌, Bool, true, false, not, List, [], ◌∷◌, length, drop, count_by, nat_le, is_some, Option, Some, None, if◌then◌else◌}
+use Rattle.std.specs.Prelude.{◌≡◌, ℕ, ◌*◌, ◌≤◌, Bool, true, false, not, List, [], ◌∷◌, length, drop, count_by, nat_le, is_some, Option, Some, None, if◌then◌else◌}
 use Rattle.std.specs.Str.{bytes_eq}
 use Rattle.rl_run.specs.declared.calls.Outcome.{Outcome}
 use Rattle.rl_run.specs.declared.calls.Verdict.{Verdict}
@@ -12,7 +12,7 @@ use Rattle.rl_arrays.specs.TableMachine.{machine}
 use Rattle.rl_sessions.specs.declared.fault.SessionFault.{SessionFault}
 use Rattle.rl_sessions.specs.declared.fault.SessionFault.TheVariants.{Twice, Full}
 
--- a session: its name; the bytes of its input from a position on; where its run stands, and what it is over with; whether it was ended
+-- a session: its name; the bytes of its input from a character on; where its run stands, and what it is over with; whether it was ended
 pub record SessionValue : Type 0 where
   pub name : List ℕ
   pub base : ℕ
@@ -53,10 +53,10 @@ HasNoLive name all = (x : SessionValue) → find name all ≡ Some x → x.is_cl
 abbrev pub refusal : List ℕ → List SessionValue → Option SessionFault
 refusal name all = if is_some (find name all) then Some Twice else (if nat_le 1024 (live all) then Some Full else None)
 
--- the window of a session is an input from its base on
-pub record IsWindowOf (input : List ℕ) (x : SessionValue) : Type 0 where
-  pub within : x.base ≤ length input
-  pub same : drop x.base input ≡ x.window
+-- the window of a session is the bytes of an input from its base on, by the width of its characters
+pub record IsWindowOf (width : ℕ) (input : List ℕ) (x : SessionValue) : Type 0 where
+  pub within : width * x.base ≤ length input
+  pub same : drop (width * x.base) input ≡ x.window
 
 -- what is told of a session
 abbrev pub verdict_in : Arrays → SessionValue → Verdict

@@ -1,5 +1,5 @@
 // One session.
-ghost use Rattle.std.specs.Prelude.{◌≡◌, ◌<◌, ◌+◌, ◌^◌, ℕ, length, true, false, Some, None, IfOk};
+ghost use Rattle.std.specs.Prelude.{◌≡◌, ◌<◌, ◌≤◌, ◌+◌, ◌*◌, ◌^◌, ℕ, length, true, false, Some, None, IfOk};
 ghost use Rattle.rl_arrays.specs.TableMachine.{machine};
 ghost use Rattle.rl_runner.specs.Feeds.{over_after};
 ghost use Rattle.rl_sessions.specs.Short.{most_kept};
@@ -8,6 +8,7 @@ ghost use Rattle.rl_sessions.specs.OneSession.{session_value, IsOne};
 ghost use Rattle.rl_sessions.specs.Runs.{Takes, Ends};
 ghost use Rattle.rl_sessions.specs.Views.{IsView};
 ghost use Rattle.rl_tables.specs.Steps.{IsEntryNumber};
+ghost use Rattle.rl_window.specs.WindowValue.{IsWidth};
 
 use crate::pieces::feed_piece;
 use crate::windows::end_window;
@@ -48,11 +49,21 @@ fn over_of(outcome: Outcome) -> Option<Outcome>
     }
 }
 
-// How many bytes a window has room for: what may still be read at most, and 4,096.
-fn room_for(settings: &Settings) -> usize
-    ensures { result ≡ most_kept settings.now + 4096 }
+// How many bytes a character has.
+#[tactic(auto, unfolding(rl_arrays::specs::TableMachine::machine))]
+fn width_in(tables: &Tables) -> u32
+    ensures value { result ≡ (machine tables.now).width }
+    ensures fits { IsWidth result }
 {
-    settings.token_max.max(settings.look) as usize + 4096
+    tables.alphabet().width()
+}
+
+// How many bytes a window has room for: those of the characters that may still be read at most, and of 4,096.
+fn room_for(settings: &Settings, width: u32) -> usize
+    requires { width ≤ 4 }
+    ensures { result ≡ width * (most_kept settings.now + 4096) }
+{
+    width as usize * (settings.token_max.max(settings.look) as usize + 4096)
 }
 
 pub(crate) fn copied(alloc: Global, bytes: &[u8]) -> Result<Vec<u8>, Memory>
@@ -73,7 +84,8 @@ pub(crate) fn start_one<'t>(
     ensures { IfOk result (λ one. (session_value one ≡ started name.now ((machine tables.now).entry entry.0)) × IsOne tables.now settings one) }
 {
     let name = copied(alloc, name)?;
-    let window = Window::new(alloc, room_for(&settings))?;
+    let width = width_in(tables);
+    let window = Window::new(alloc, room_for(&settings, width), width)?;
     let runner = Runner::new(alloc, tables, entry, settings)?;
     Ok(One {
         name,
@@ -91,7 +103,7 @@ pub(crate) fn feed_one<H: FnMut(Call) -> Answer>(
     host: &mut H,
 ) -> Outcome
     requires one { IsOne one.old.runner.tables one.old.runner.settings one.old }
-    requires end { one.old.over ≡ None → one.old.window.base + length one.old.window.bytes + length piece.now < 2 ^ 63 }
+    requires end { one.old.over ≡ None → (machine one.old.runner.tables).width * one.old.window.base + length one.old.window.bytes + length piece.now < 2 ^ 63 }
     requires callable { H.IsAlwaysCallable host.old }
     ensures takes { Takes H.step (machine one.old.runner.tables) one.old.runner.settings piece.now host.old host.new (session_value one.old) (session_value one.new) result }
     ensures one { IsOne one.old.runner.tables one.old.runner.settings one.new }

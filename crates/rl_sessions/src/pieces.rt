@@ -1,5 +1,5 @@
 // A runner over a piece, as much at a time as its window has room for.
-ghost use Rattle.std.specs.Prelude.{◌≡◌, ◌≢◌, ◌+◌, ◌<◌, ◌≤◌, ◌^◌, ◌++◌, ℕ, [], length, drop, true, false, Some, None};
+ghost use Rattle.std.specs.Prelude.{◌≡◌, ◌≢◌, ◌+◌, ◌*◌, ◌/◌, ◌<◌, ◌≤◌, ◌^◌, ◌++◌, ℕ, [], length, drop, true, false, Some, None};
 ghost use Rattle.rl_run.specs.Fine.{IsKinded, IsFine};
 ghost use Rattle.rl_run.specs.Machine.{keep};
 ghost use Rattle.rl_runner.specs.Feeds.{window_of, over_after};
@@ -23,12 +23,13 @@ fn feed_and_drop<H: FnMut(Call) -> Answer>(
     requires going { runner.old.over ≡ None }
     requires base { window.old.base ≤ keep runner.old.settings runner.old.session }
     requires short { IsShort runner.old.settings runner.old.session }
-    requires room { most_kept runner.old.settings < window.old.capacity }
+    requires width { window.old.width ≡ (machine runner.old.tables).width }
+    requires room { (machine runner.old.tables).width * (most_kept runner.old.settings + 1) ≤ window.old.capacity }
     requires callable { H.IsAlwaysCallable host.old }
-    ensures ran { RanOver H.step (machine runner.old.tables) runner.old.settings (window_of window.old.base window.old.bytes) host.old runner.old.session result host.new runner.new.session }
-    ensures wants { result ≡ Outcome.Wants → window.old.base + length window.old.bytes ≤ runner.new.session.next }
+    ensures ran { RanOver H.step (machine runner.old.tables) runner.old.settings (window_of (machine runner.old.tables).width window.old.base window.old.bytes) host.old runner.old.session result host.new runner.new.session }
+    ensures wants { result ≡ Outcome.Wants → window.old.base + length window.old.bytes / (machine runner.old.tables).width ≤ runner.new.session.next }
     ensures window { window.new ≡ dropped window.old (keep runner.old.settings runner.new.session) }
-    ensures ready { result ≡ Outcome.Wants → IsReady runner.old.settings window.new runner.new.session }
+    ensures ready { result ≡ Outcome.Wants → IsReady (machine runner.old.tables).width runner.old.settings window.new runner.new.session }
     ensures over_after { runner.new.over ≡ over_after result }
     ensures unbroken { result ≢ Outcome.Broke }
     ensures same { (runner.new.tables ≡ runner.old.tables) × (runner.new.settings ≡ runner.old.settings) }
@@ -69,13 +70,13 @@ pub(crate) fn feed_piece<H: FnMut(Call) -> Answer>(
     host: &mut H,
 ) -> Outcome
     requires going { runner.old.over ≡ None }
-    requires ready { IsReady runner.old.settings window.old runner.old.session }
-    requires end { window.old.base + length window.old.bytes + length piece.now < 2 ^ 63 }
+    requires ready { IsReady (machine runner.old.tables).width runner.old.settings window.old runner.old.session }
+    requires end { (machine runner.old.tables).width * window.old.base + length window.old.bytes + length piece.now < 2 ^ 63 }
     requires callable { H.IsAlwaysCallable host.old }
-    ensures ran { RanOver H.step (machine runner.old.tables) runner.old.settings (window_of window.old.base (window.old.bytes ++ piece.now)) host.old runner.old.session result host.new runner.new.session }
-    ensures wants { result ≡ Outcome.Wants → window.old.base + length window.old.bytes + length piece.now ≤ runner.new.session.next }
-    ensures window { result ≡ Outcome.Wants → IsPart window.old.base (window.old.bytes ++ piece.now) window.new [] }
-    ensures ready { result ≡ Outcome.Wants → IsReady runner.old.settings window.new runner.new.session }
+    ensures ran { RanOver H.step (machine runner.old.tables) runner.old.settings (window_of (machine runner.old.tables).width window.old.base (window.old.bytes ++ piece.now)) host.old runner.old.session result host.new runner.new.session }
+    ensures wants { result ≡ Outcome.Wants → window.old.base + length (window.old.bytes ++ piece.now) / (machine runner.old.tables).width ≤ runner.new.session.next }
+    ensures window { result ≡ Outcome.Wants → IsPart (machine runner.old.tables).width window.old.base (window.old.bytes ++ piece.now) window.new [] }
+    ensures ready { result ≡ Outcome.Wants → IsReady (machine runner.old.tables).width runner.old.settings window.new runner.new.session }
     ensures over_after { runner.new.over ≡ over_after result }
     ensures unbroken { result ≢ Outcome.Broke }
     ensures same { (runner.new.tables ≡ runner.old.tables) × (runner.new.settings ≡ runner.old.settings) }

@@ -1,5 +1,5 @@
 // Sessions by their names.
-ghost use Rattle.std.specs.Prelude.{◌≡◌, ◌<◌, ◌≤◌, ◌+◌, ◌^◌, ℕ, [], ◌∷◌, ◌++◌, length, map, not, slice_get, true, false, Some, None, Err, IfOk, IfErr, OnErr, MatchOption};
+ghost use Rattle.std.specs.Prelude.{◌≡◌, ◌<◌, ◌≤◌, ◌+◌, ◌*◌, ◌^◌, ℕ, [], ◌∷◌, ◌++◌, length, map, not, slice_get, true, false, Some, None, Err, IfOk, IfErr, OnErr, MatchOption};
 ghost use Rattle.std.specs.Option.{option_map};
 ghost use Rattle.rl_arrays.specs.TableMachine.{machine};
 
@@ -88,16 +88,18 @@ impl Sessions<'_> {
         Ok(())
     }
 
-    /// Runs a session over a piece more of its input, behind every break. `NoSession` comes exactly where no session that was
-    /// not ended has the name, and is the only error; everything stays as it was then. It answers `Wants`, or `Stopped` with
-    /// what the session stopped with, also where it stopped before: then nobody is called. It takes no memory.
+    /// Runs a session over a piece more of its input, which may end within a character, behind every break. `NoSession` comes
+    /// exactly where no session that was not ended has the name, and is the only error; everything stays as it was then. It
+    /// answers `Wants`, or `Stopped` with what the session stopped with, also where it stopped before: then nobody is called.
+    /// It takes no memory.
     pub fn piece<H: FnMut(Call) -> Answer>(
         &mut self,
         name: &[u8],
         piece: &[u8],
         host: &mut H,
     ) -> Result<Outcome, SessionFault>
-        requires small { (x : SessionValue) → find name.now self.old.all ≡ Some x → x.over ≡ None → x.base + length x.window + length piece.now < 2 ^ 63 }
+        requires small { (x : SessionValue) → find name.now self.old.all ≡ Some x → x.over ≡ None →
+            (machine self.old.tables).width * x.base + length x.window + length piece.now < 2 ^ 63 }
         requires callable { H.IsAlwaysCallable host.old }
         ensures taken { IfOk result (λ outcome. TakesPiece H.step host.old host.new name.now self.old self.new piece.now outcome) }
         ensures refused { IfErr result (λ fault. (fault ≡ SessionFault.NoSession) × HasNoLive name.now self.old.all × (self.new ≡ self.old) × (host.new ≡ host.old)) }
@@ -109,10 +111,11 @@ impl Sessions<'_> {
         Ok(feed_one(&mut self.all[place], piece, host))
     }
 
-    /// Runs a session to the end of its input, behind every break, and what follows there; it can't be reached any more by
-    /// `piece` and `end`. `NoSession` comes exactly where no session that was not ended has the name, and is the only error;
-    /// everything stays as it was then. It answers `Ended`, or `Stopped` with what the session stopped with, also where it
-    /// stopped before: then nobody is called. It takes no memory.
+    /// Runs a session to the end of its input, behind every break, and what follows there; an input that ends within a
+    /// character stops it with `HalfKey`. It can't be reached any more by `piece` and `end`. `NoSession` comes exactly where
+    /// no session that was not ended has the name, and is the only error; everything stays as it was then. It answers
+    /// `Ended`, or `Stopped` with what the session stopped with, also where it stopped before: then nobody is called. It
+    /// takes no memory.
     pub fn end<H: FnMut(Call) -> Answer>(
         &mut self,
         name: &[u8],

@@ -1,5 +1,5 @@
 // A runner over one window, behind every break.
-ghost use Rattle.std.specs.Prelude.{◌≡◌, ◌≢◌, ◌+◌, ◌<◌, ◌≤◌, ◌^◌, ℕ, length, true, false, Some, None};
+ghost use Rattle.std.specs.Prelude.{◌≡◌, ◌≢◌, ◌+◌, ◌*◌, ◌/◌, ◌<◌, ◌≤◌, ◌^◌, ℕ, length, true, false, Some, None};
 ghost use Rattle.rl_run.specs.Fine.{IsKinded, IsFine};
 ghost use Rattle.rl_run.specs.Machine.{keep};
 ghost use Rattle.rl_runner.specs.Feeds.{window_of, over_after};
@@ -30,11 +30,11 @@ pub(crate) fn feed_window<H: FnMut(Call) -> Answer>(
 ) -> Outcome
     requires going { runner.old.over ≡ None }
     requires base { base ≤ keep runner.old.settings runner.old.session }
-    requires end { base + length window.now < 2 ^ 63 }
+    requires end { (machine runner.old.tables).width * base + length window.now < 2 ^ 63 }
     requires short { IsShort runner.old.settings runner.old.session }
     requires callable { H.IsAlwaysCallable host.old }
-    ensures ran { RanOver H.step (machine runner.old.tables) runner.old.settings (window_of base window.now) host.old runner.old.session result host.new runner.new.session }
-    ensures wants { result ≡ Outcome.Wants → base + length window.now ≤ runner.new.session.next }
+    ensures ran { RanOver H.step (machine runner.old.tables) runner.old.settings (window_of (machine runner.old.tables).width base window.now) host.old runner.old.session result host.new runner.new.session }
+    ensures wants { result ≡ Outcome.Wants → base + length window.now / (machine runner.old.tables).width ≤ runner.new.session.next }
     ensures short { result ≡ Outcome.Wants → IsShort runner.old.settings runner.new.session }
     ensures keeps { result ≡ Outcome.Wants → base ≤ keep runner.old.settings runner.new.session }
     ensures over_after { runner.new.over ≡ over_after result }
@@ -61,7 +61,7 @@ pub(crate) fn end_window<H: FnMut(Call) -> Answer>(
 ) -> Outcome
     requires going { runner.old.over ≡ None }
     requires base { base ≤ keep runner.old.settings runner.old.session }
-    requires end { base + length window.now < 2 ^ 63 }
+    requires end { (machine runner.old.tables).width * base + length window.now < 2 ^ 63 }
     requires callable { H.IsAlwaysCallable host.old }
     ensures ran { RanOut H.step (machine runner.old.tables) runner.old.settings base window.now host.old runner.old.session result host.new runner.new.session }
     ensures over_after { runner.new.over ≡ over_after result }
