@@ -15,3 +15,4 @@ pub mod PrintLaws
 pub mod Injective
 pub mod Outcomes
 pub mod OnlyLaws
+pub mod Explained

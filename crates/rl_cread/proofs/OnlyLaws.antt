@@ -26,12 +26,12 @@ use Rattle.rl_cread.proofs.ValueLaws.{theirs}
 use Rattle.rl_cread.proofs.PrintLaws.{valid_prints}
 use Rattle.rl_cread.proofs.Outcomes.{drop_at, section_is}
 
-get_front : {A : Type 0} (xs ys : List A) (j : ℕ) → j < length xs → slice_get (xs ++ ys) j ≡ slice_get xs j
+pub get_front : {A : Type 0} (xs ys : List A) (j : ℕ) → j < length xs → slice_get (xs ++ ys) j ≡ slice_get xs j
 get_front [] ys j lt = absurd (omega arith)
 get_front (x ∷ xs) ys zero lt = refl
 get_front (x ∷ xs) ys (suc j) lt = get_front xs ys j (omega arith)
 
-stands_goes : (v : Bool) (name : List ℕ) (lines : List (List ℕ)) (raw : Raw) → IsTrue (is_name name) → StandsAt v name lines raw → Goes name lines (length (said_of raw.arrays raw.entries)) raw.arrays raw.entries
+pub stands_goes : (v : Bool) (name : List ℕ) (lines : List (List ℕ)) (raw : Raw) → IsTrue (is_name name) → StandsAt v name lines raw → Goes name lines (length (said_of raw.arrays raw.entries)) raw.arrays raw.entries
 stands_goes v name lines raw formed s =
     let ls : List (List ℕ) = map (line name) (said_of raw.arrays raw.entries) in
     let all : first_line (version_text v) name ∷ lines ≡ first_line (version_text v) name ∷ (ls ++ s.behind) = s.is ∙ ap (λ t. t ++ s.behind) (section_lines_are v name raw.arrays raw.entries s.shared s.named) in
@@ -58,7 +58,7 @@ same_count name lines count raw ends g =
       ]
     ]
 
-stands_agrees : (v : Bool) (name : List ℕ) (lines : List (List ℕ)) (count : ℕ) (raw : Raw) → IsTrue (is_name name) → EntriesEnd name (drop 4 lines) count → StandsAt v name lines raw
+pub stands_agrees : (v : Bool) (name : List ℕ) (lines : List (List ℕ)) (count : ℕ) (raw : Raw) → IsTrue (is_name name) → EntriesEnd name (drop 4 lines) count → StandsAt v name lines raw
     → Agrees name (shape v count) lines (length (shape v count)) (said_of raw.arrays raw.entries)
 stands_agrees v name lines count raw formed ends s =
     let w : Bool = shares raw.arrays in
@@ -69,7 +69,7 @@ stands_agrees v name lines count raw formed ends s =
     (subst (λ n. Agrees name (shape w n) lines (length (shape w n)) (said_of raw.arrays raw.entries)) (sym e)
     (record { fits = said_fits raw.arrays raw.entries s.fits; same = λ j lt. g.same j (omega (arith, lt, len)) }))
 
-reads_it : (v : Bool) (name : List ℕ) (lines : List (List ℕ)) (raw other : Raw) → IsTrue (is_name name) → ReadsAs v name lines raw → StandsAt v name lines other → raw ≡ other
+pub reads_it : (v : Bool) (name : List ℕ) (lines : List (List ℕ)) (raw other : Raw) → IsTrue (is_name name) → ReadsAs v name lines raw → StandsAt v name lines other → raw ≡ other
 reads_it v name lines raw other formed r s =
     let said = agrees_once name (shape v r.count) lines r.said (said_of other.arrays other.entries) r.agrees (stands_agrees v name lines r.count other formed r.ends s) in
     r.is ∙ ap (λ t. filled t (record { arrays = empty v name; entries = [] })) said
@@ -84,7 +84,7 @@ no_earlier : (machine : Option (List ℕ)) (o : Option (List ℕ)) → IsSomeAnd
 no_earlier machine None h k = h
 no_earlier machine (Some l) h k = k h
 
-one_begin : (machine : Option (List ℕ)) (lines : List (List ℕ)) (i j : ℕ) → BeginsAt machine lines i → BeginsAt machine lines j → i ≡ j
+pub one_begin : (machine : Option (List ℕ)) (lines : List (List ℕ)) (i j : ℕ) → BeginsAt machine lines i → BeginsAt machine lines j → i ≡ j
 one_begin machine lines i j a b =
     elim (cases_lt i j) [
       | inl lt ↦ absurd (no_earlier machine (slice_get lines i) a.first (b.before i lt))
@@ -112,7 +112,7 @@ never_bad : (a : Arrays) (value : BadValue) → Valid a → IsBad a value → �
 never_bad a value v (inl b) = b.version v.version
 never_bad a value v (inr b) = b.index.1 (v.each value.array value.index b.index.0)
 
-never_first_bad : (a : Arrays) (value : BadValue) → Valid a → IsFirstBad a (entries a) value → ⊥
+pub never_first_bad : (a : Arrays) (value : BadValue) → Valid a → IsFirstBad a (entries a) value → ⊥
 never_first_bad a value v (inl b) = never_bad a value v b.0
 never_first_bad a value v (inr b) = b.0 (theirs a v)
 

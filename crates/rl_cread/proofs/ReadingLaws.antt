@@ -110,19 +110,19 @@ pub record Goes (name : List ℕ) (lines : List (List ℕ)) (n : ℕ) (a : Array
   pub within : n < length (said_of a es) + 1
   pub same : (j : ℕ) → j < n → slice_get lines j ≡ slice_get (map (line name) (said_of a es)) j
 
-get_drop : {A : Type 0} (xs : List A) (k : ℕ) → slice_get (drop 4 xs) k ≡ slice_get xs (suc (suc (suc (suc k))))
+pub get_drop : {A : Type 0} (xs : List A) (k : ℕ) → slice_get (drop 4 xs) k ≡ slice_get xs (suc (suc (suc (suc k))))
 get_drop [] k = refl
 get_drop (a ∷ []) k = refl
 get_drop (a ∷ b ∷ []) k = refl
 get_drop (a ∷ b ∷ c ∷ []) k = refl
 get_drop (a ∷ b ∷ c ∷ d ∷ xs) k = refl
 
-entry_said_at : (name : List ℕ) (es : List (List ℕ × ℤ)) (rest : List Said) (k : ℕ) → AllByRecursion IsPrintedEntry es → k < length es → IsSomeAnd (slice_get (map (line name) (map said_entry es ++ rest)) k) (IsEntryLine name)
+pub entry_said_at : (name : List ℕ) (es : List (List ℕ × ℤ)) (rest : List Said) (k : ℕ) → AllByRecursion IsPrintedEntry es → k < length es → IsSomeAnd (slice_get (map (line name) (map said_entry es ++ rest)) k) (IsEntryLine name)
 entry_said_at name [] rest k h lt = absurd (omega arith)
 entry_said_at name (e ∷ es) rest zero h lt = record { word = e.0; number = e.1; fits = h.0; is = refl }
 entry_said_at name (e ∷ es) rest (suc k) h lt = entry_said_at name es rest k h.1 (omega arith)
 
-tail_said_at : (name : List ℕ) (es : List (List ℕ × ℤ)) (s : Said) (rest : List Said) → slice_get (map (line name) (map said_entry es ++ (s ∷ rest))) (length es) ≡ Some (line name s)
+pub tail_said_at : (name : List ℕ) (es : List (List ℕ × ℤ)) (s : Said) (rest : List Said) → slice_get (map (line name) (map said_entry es ++ (s ∷ rest))) (length es) ≡ Some (line name s)
 tail_said_at name [] s rest = refl
 tail_said_at name (e ∷ es) s rest = tail_said_at name es s rest
 
@@ -198,7 +198,7 @@ goes_so name lines count n a es ends g =
       ]
     ]
 
-goes_on : (v : Bool) (name : List ℕ) (lines : List (List ℕ)) (n : ℕ) → IsTrue (is_name name) → (b : Begins (first_line (version_text v) name ∷ lines) (n + 1)) → shares b.arrays ≡ v → b.arrays.name ≡ name
+pub goes_on : (v : Bool) (name : List ℕ) (lines : List (List ℕ)) (n : ℕ) → IsTrue (is_name name) → (b : Begins (first_line (version_text v) name ∷ lines) (n + 1)) → shares b.arrays ≡ v → b.arrays.name ≡ name
     → Goes name lines n b.arrays b.entries
 goes_on v name lines n formed b shared named =
     let are = section_lines_are v name b.arrays b.entries shared named in

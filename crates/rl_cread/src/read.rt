@@ -61,6 +61,7 @@ fn tables_at(
 /// The same for the first section of a text.
 fn tables_in(alloc: Global, text: &[u8], machine: Option<&[u8]>) -> Result<Tables, TableFault>
     ensures read { IfOk result (IsRead (option_copied machine.entry) text.now) }
+    ensures numbers { IfOk result (λ t. HasNumbers t) }
     ensures told { IfErr result (Explains (option_copied machine.entry) text.now) }
     ensures only { (a : Arrays) → IsRead (option_copied machine.entry) text.now a → HasNumbers a → Valid a → MatchResult result (λ t. t ≡ a) (λ e. e ≡ TableFault.Memory) }
 {
@@ -79,6 +80,7 @@ fn tables_in(alloc: Global, text: &[u8], machine: Option<&[u8]>) -> Result<Table
 pub fn read_tables(alloc: Global, text: &[u8], machine: Option<&[u8]>) -> Result<Tables, TableFault>
     // the section's lines are exactly those of the tables
     ensures read { IfOk result (IsRead (option_copied machine.entry) text.now) }
+    ensures numbers { IfOk result (λ t. HasNumbers t) }
     ensures told { IfErr result (Explains (option_copied machine.entry) text.now) }
     // A section of valid arrays, whose numbers fit their type, is read.
     ensures only { (a : Arrays) → IsRead (option_copied machine.entry) text.now a → HasNumbers a → Valid a → MatchResult result (λ t. t ≡ a) (λ e. e ≡ TableFault.Memory) }
