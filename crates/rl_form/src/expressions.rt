@@ -22,14 +22,18 @@ fn is_stamp(n: u32) -> bool
     1 <= n && n <= 100_000
 }
 
+// Whether the alphabet has the key.
+fn has_key(alphabet: Alphabet, key: i64) -> bool
+    ensures { result ≡ has_key alphabet key }
+{
+    alphabet.least_key() <= key && key <= alphabet.greatest_key()
+}
+
 // Whether both ends of the range are keys of the alphabet.
 fn is_in_alphabet(alphabet: Alphabet, range: &KeyRange) -> bool
     ensures { IsTrue result ↔ IsInAlphabet alphabet range.now }
 {
-    match alphabet {
-        Alphabet::Char => -128 <= range.lo() && range.hi() <= 127,
-        Alphabet::UnsignedChar => 0 <= range.lo() && range.hi() <= 255,
-    }
+    has_key(alphabet, range.lo()) && has_key(alphabet, range.hi())
 }
 
 fn are_in_alphabet(alphabet: Alphabet, ranges: &[KeyRange]) -> bool
