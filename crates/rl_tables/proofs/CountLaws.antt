@@ -1,17 +1,18 @@
 -- Members of lists, parts of lists, and statements at the outer level.
-use Rattle.std.proofs.Common.{◌≡◌, ◌⊎◌, ℕ, zero, suc, ◌+◌, ◌<◌, ◌≤◌, List, [], ◌∷◌, length, min, map, take, drop, Bool, true, false, Some, None, refl, sym, inl, inr, arith}
-use Rattle.std.specs.Prelude.{ℤ, pos, not, ◌≤ℤ◌, ◌==◌, slice_get, slice_index_or, if◌then◌else◌}
+use Rattle.std.proofs.Common.{◌≡◌, ◌⊎◌, ℕ, zero, suc, ◌+◌, ◌<◌, ◌≤◌, List, [], ◌∷◌, length, min, map, take, drop, Bool, true, false, Some, None, refl, sym, ap, ◌∙◌, inl, inr, arith}
+use Rattle.std.specs.Prelude.{ℤ, pos, not, ◌↔◌, ◌≤ℤ◌, ◌==◌, slice_get, slice_index_or, if◌then◌else◌}
 use Rattle.std.specs.List.{Contains, list_any}
+use Rattle.std.specs.Option.{option_map_or}
 use Rattle.std.specs.Ordering.{int_eq}
 use Rattle.std.proofs.lemmas.Bool.{cases_lt}
 use Rattle.std.proofs.lemmas.Bool.Decides.{nat_tests}
 use Rattle.std.proofs.lemmas.List.{drop_all}
 use Rattle.std.proofs.lemmas.Option.{slice_get_past}
-use Rattle.rl_run.specs.declared.statements.StatementKind.{StatementKind}
 use Rattle.rl_arrays.specs.declared.arrays.Arrays.{Arrays}
 use Rattle.rl_arrays.specs.Words.{natural, number_at}
 use Rattle.rl_arrays.specs.Lists.{members}
 use Rattle.rl_arrays.specs.Statements.{kind_of, ends_list, outer_kinds, up_to_end}
+use Rattle.rl_arrays.specs.Sizes.{entries_of, used_cell, IsIn}
 use Rattle.rl_arrays.specs.Rules.{IsListed, CountSays}
 use Rattle.rl_tables.specs.Moves.{MayMove}
 
@@ -51,16 +52,16 @@ any_listed a numbers i k number ms e is h =
 pub none_listed : (a : Arrays) (numbers : List ℤ) (i k : ℕ) → length numbers ≤ i → IsListed a numbers i k → ⊥
 none_listed a numbers i k le h = rw (slice_get_past numbers i le) at h
 
-pub outer_skip : (k mark : ℤ) (ks marks : List ℤ) → (if int_eq mark (pos 1) then kind_of k else None) ≡ None → length (up_to_end (outer_kinds (k ∷ ks) (mark ∷ marks))) ≡ length (up_to_end (outer_kinds ks marks))
+pub outer_skip : (k mark : ℤ) (ks marks : List ℤ) → int_eq mark (pos 1) ≡ false → length (up_to_end (outer_kinds (k ∷ ks) (mark ∷ marks))) ≡ length (up_to_end (outer_kinds ks marks))
 outer_skip k mark ks marks e = rw e refl
 
-pub outer_more : (k mark : ℤ) (ks marks : List ℤ) (kind : StatementKind) → (if int_eq mark (pos 1) then kind_of k else None) ≡ Some kind → ends_list kind ≡ false
+pub outer_more : (k mark : ℤ) (ks marks : List ℤ) → int_eq mark (pos 1) ≡ true → option_map_or ends_list (kind_of k) false ≡ false
     → length (up_to_end (outer_kinds (k ∷ ks) (mark ∷ marks))) ≡ 1 + length (up_to_end (outer_kinds ks marks))
-outer_more k mark ks marks kind e other = rw e (rw other (omega arith))
+outer_more k mark ks marks e other = rw e (rw other (omega arith))
 
-pub outer_last : (k mark : ℤ) (ks marks : List ℤ) (kind : StatementKind) → (if int_eq mark (pos 1) then kind_of k else None) ≡ Some kind → ends_list kind ≡ true
+pub outer_last : (k mark : ℤ) (ks marks : List ℤ) → int_eq mark (pos 1) ≡ true → option_map_or ends_list (kind_of k) false ≡ true
     → length (up_to_end (outer_kinds (k ∷ ks) (mark ∷ marks))) ≡ 1
-outer_last k mark ks marks kind e same = rw e (rw same refl)
+outer_last k mark ks marks e same = rw e (rw same refl)
 
 outer_no_marks : (ks : List ℤ) → outer_kinds ks [] ≡ []
 outer_no_marks [] = refl
@@ -94,3 +95,20 @@ count_says a k count low some few m = record {
 
 pub says_moves : (a : Arrays) (k : ℕ) (count : ℤ) → (count ≡ pos 0 → ⊥) → CountSays a k count → MayMove a k
 says_moves a k count other said = record { from = λ s h. other (said.from s h); to = λ s h. other (said.to s h); inner = λ s e h j l. other (said.inner s e h j l) }
+
+-- an action in lists of entries of cells, place by place
+pub in_no_entry_behind : (a : Arrays) (k cell from to : ℕ) → ((e : ℕ) → e < length a.trans_lists → IsIn (entries_of a) cell e ↔ ((from ≤ e) × (e < to)))
+    → (e : ℕ) → to ≤ e → IsIn (entries_of a) cell e → IsListed a a.trans_lists e k → ⊥
+in_no_entry_behind a k cell from to entries e le of_cell listed' = elim (cases_lt e (length a.trans_lists)) [
+  | inl less ↦ let r = (entries e less).0 of_cell in absurd (omega (arith, r))
+  | inr ge ↦ none_listed a a.trans_lists e k ge listed'
+]
+
+pub same_cell : (a : Arrays) (place c cell : ℕ) → used_cell a place ≡ Some (pos cell) → used_cell a place ≡ Some (pos c) → c ≡ cell
+same_cell a place c cell e f = ap natural same
+  where
+    one : Some (pos c) ≡ Some (pos cell)
+    one = sym f ∙ e
+
+    same : pos c ≡ pos cell
+    same = let o = one in cc

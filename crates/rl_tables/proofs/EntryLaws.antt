@@ -1,19 +1,19 @@
--- Each entry is of one cell, and each cell of one state.
-use Rattle.std.proofs.Common.{◌≡◌, ℕ, zero, suc, ◌+◌, ◌-◌, ◌<◌, ◌≤◌, List, [], ◌∷◌, length, Option, Some, None, refl, sym, ap, ◌∙◌, inl, inr, arith, lit<, take, length-take, subst}
-use Rattle.std.specs.Prelude.{ℤ, pos, negsuc, ◌≤ℤ◌, ◌<ℤ◌, ◌↔◌, IsSomeAnd, IfSome, slice_get, slice_index_or}
-use Rattle.std.specs.List.Sorted.{IsPartitionPoint}
+-- What the arrays on cells say of uses, cells and entries, where they are right.
+use Rattle.std.proofs.Common.{◌≡◌, ℕ, zero, suc, ◌+◌, ◌-◌, ◌^◌, ◌<◌, ◌≤◌, Bool, true, false, List, [], ◌∷◌, length, Option, Some, None, refl, sym, ap, ◌∙◌, inl, inr, arith, lit<}
+use Rattle.std.specs.Prelude.{ℤ, pos, negsuc, ◌+ℤ◌, ◌≤ℤ◌, ◌<ℤ◌, ◌↔◌, IsSomeAnd, IfSome, slice_get, slice_index_or, count_ones, if◌then◌else◌}
 use Rattle.std.proofs.lemmas.Bool.{cases_lt}
 use Rattle.std.proofs.lemmas.Int.{ints}
-use Rattle.std.proofs.lemmas.List.{get_or-take}
-use Rattle.std.proofs.lemmas.Option.{slice_get-get_or, get_or_from_slice_get, IfSome_then}
+use Rattle.std.proofs.lemmas.Option.{slice_get-get_or, IfSome_then}
 use Rattle.rl_arrays.specs.declared.arrays.Arrays.{Arrays}
 use Rattle.rl_arrays.specs.declared.arrays.ArrayName.TheVariants as the
-use Rattle.rl_arrays.specs.Words.{natural, plus, sum_before, IfAt}
-use Rattle.rl_arrays.specs.Sizes.{states, cells_of, entries_of, cells_end, entries_end, one_more, IsClosing, IsIn, IsEntryOf}
-use Rattle.rl_arrays.specs.Rules.{LengthSays, IsSum}
-use Rattle.rl_arrays.specs.Valid.{FirstWrong, SoundBefore}
+use Rattle.rl_arrays.specs.Words.{natural, number_at, plus, sum_before, IfAt}
+use Rattle.rl_arrays.specs.Sizes.{states, shares, uses_of, entries_of, used_cell, uses_end, cells_end, one_more, IsClosing, IsIn}
+use Rattle.rl_arrays.specs.Rules.{LengthSays, UseSays, IsSum}
+use Rattle.rl_arrays.specs.TableMachine.{cell_used}
+use Rattle.rl_arrays.specs.Valid.{FirstWrong, Right, SoundBefore}
+use Rattle.rl_arrays.proofs.Laws.{sum-more}
 use Rattle.rl_tables.specs.Ends.{IsInside}
-use Rattle.rl_tables.proofs.SumLaws.{AreWidths, total, known, rise, total_none, one_in, in_below, found_in, fewer}
+use Rattle.rl_tables.proofs.SumLaws.{AreWidths, total, known, rise, total_none, in_between}
 
 -- what is said of an element that is there
 said : (xs : List ℤ) (i : ℕ) (P : ℤ → Type 0) → i < length xs → IfAt xs i P → IsSomeAnd (slice_get xs i) P
@@ -30,7 +30,7 @@ plus_positive None y h k = h
 plus_positive (Some m) None h k = k
 plus_positive (Some m) (Some n) h k = omega (arith, ints, h, k)
 
-states_known : (a : Arrays) → FirstWrong a the.SingleLengths None → FirstWrong a the.RangeLengths None → AreWidths (cells_of a) (states a)
+states_known : (a : Arrays) → FirstWrong a the.SingleLengths None → FirstWrong a the.RangeLengths None → AreWidths (uses_of a) (states a)
 states_known a singles ranges = record {
   each = λ s lt.
       let m = singles s (omega arith) in
@@ -53,17 +53,6 @@ summed xs width i z lt e h =
     let same : n ≡ z = rw e at k in
     there ∙ ap (λ (x : ℤ). Some x) same
 
--- what the arrays before the targets say of places
-pub record Places (a : Arrays) : Type 0 where
-  pub cells : ℕ
-  pub asks : length a.cell_asks ≡ cells + 1
-  pub states_are : AreWidths (cells_of a) (states a)
-  pub cells_are : total (cells_of a) (states a) ≡ pos cells
-  pub offsets_len : length a.cell_offsets ≡ states a
-  pub offsets : (s : ℕ) → s < states a → slice_get a.cell_offsets s ≡ Some (total (cells_of a) s)
-  pub entries_len : length a.cell_entries ≡ cells + 1
-  pub entries : (c : ℕ) → c < cells → slice_get a.cell_entries c ≡ Some (total (entries_of a) c)
-
 -- a non-negative number
 counted : (z : ℤ) → pos 0 ≤ℤ z → z ≡ pos (natural z)
 counted (pos n) h = refl
@@ -79,96 +68,226 @@ all_due has due h k = elim (cases_lt has due) [
   | inr le ↦ elim (cases_lt due has) [ inl more ↦ absurd (omega (arith, h due more)) | inr ge ↦ omega arith ]
 ]
 
-pub places_of : (a : Arrays) → SoundBefore a 8 → Places a
-places_of a sound =
-    let singles : FirstWrong a the.SingleLengths None = sound 3 (lit< tt) in
-    let ranges : FirstWrong a the.RangeLengths None = sound 4 (lit< tt) in
-    let offs : FirstWrong a the.CellOffsets None = sound 5 (lit< tt) in
-    let asked : FirstWrong a the.CellAsks None = sound 6 (lit< tt) in
-    let ents : FirstWrong a the.CellEntries None = sound 7 (lit< tt) in
-    let widths = states_known a singles ranges in
-    let n = natural (total (cells_of a) (states a)) in
-    let low = rise (cells_of a) (states a) widths 0 (states a) (omega arith) (omega arith) in
-    let nought = total_none (cells_of a) in
-    let cells_are : total (cells_of a) (states a) ≡ pos n = counted (total (cells_of a) (states a)) (omega (arith, ints, low, nought)) in
-    let end : cells_end a ≡ Some (pos n) = known (cells_of a) (states a) widths (states a) (omega arith) ∙ ap (λ (x : ℤ). Some x) cells_are in
-    let due-is : one_more (cells_end a) (length a.cell_asks) ≡ n + 1 = one_more_is (cells_end a) n (length a.cell_asks) end in
-    let asks : length a.cell_asks ≡ n + 1 = all_due (length a.cell_asks) (one_more (cells_end a) (length a.cell_asks)) (λ k lt. (asked k (omega arith)).due) (λ k lt. (asked k (omega arith)).there) ∙ due-is in
-    record {
-      cells = n;
-      asks = asks;
-      states_are = widths;
-      cells_are = cells_are;
-      offsets_len = all_due (length a.cell_offsets) (states a) (λ k lt. (offs k (omega arith)).due) (λ k lt. (offs k (omega arith)).there);
-      offsets = λ s lt. (let r = offs s (omega arith) in summed a.cell_offsets (cells_of a) s (total (cells_of a) s) r.there (known (cells_of a) (states a) widths s (omega arith)) r.says);
-      entries_len = all_due (length a.cell_entries) (length a.cell_asks) (λ k lt. (ents k (omega arith)).due) (λ k lt. (ents k (omega arith)).there) ∙ asks;
-      entries = λ c lt.
-          let r = ents c (omega arith) in
-          let not_closing : IsClosing (cells_end a) c → ⊥ = λ at'. (let e : Some (pos n) ≡ Some (pos c) = sym end ∙ at' in let same : n ≡ c = cc in omega arith) in
-          let sum : IfAt a.cell_entries c (IsSum (entries_of a) c) = IfSome_then (slice_get a.cell_entries c) r.says (λ x p. p.sum not_closing) in
-          summed a.cell_entries (entries_of a) c (total (entries_of a) c) r.there (known (entries_of a) (length a.cell_asks) (cells_known a) c (omega arith)) sum;
-    }
+some_pos : (m n : ℕ) → Some (pos m) ≡ Some (pos n) → m ≡ n
+some_pos m n e = ap natural same
+  where
+    same : pos m ≡ pos n
+    same = cc
 
-pub all_cells : (a : Arrays) (P : Places a) → cells_end a ≡ Some (pos P.cells)
-all_cells a P = known (cells_of a) (states a) P.states_are (states a) (omega arith) ∙ ap (λ (x : ℤ). Some x) P.cells_are
+number-is : (xs : List ℤ) (i : ℕ) (x : ℤ) → slice_get xs i ≡ Some x → pos 0 ≤ℤ x → x ≡ pos (number_at xs i)
+number-is xs i x e h = rw e (counted x h)
 
-pub all_entries : (a : Arrays) (P : Places a) → entries_end a ≡ Some (total (entries_of a) P.cells)
-all_entries a P = rw (all_cells a P) (known (entries_of a) (length a.cell_asks) (cells_known a) P.cells (omega (arith, P.asks)))
+-- the sums before a thing are known, so the element that is one is a count
+placed : (xs : List ℤ) (width : ℕ → Option ℤ) (n i : ℕ) → AreWidths width n → i ≤ n → i < length xs → IfAt xs i (IsSum width i) → sum_before width i ≡ Some (pos (number_at xs i))
+placed xs width n i widths le lt says =
+    let z = total width i in
+    let sum : sum_before width i ≡ Some z = known width n widths i le in
+    let there : slice_get xs i ≡ Some z = summed xs width i z lt sum says in
+    let low = rise width n widths 0 i (omega arith) le in
+    let nought = total_none width in
+    sum ∙ ap (λ (x : ℤ). Some x) (number-is xs i z there (omega (arith, ints, low, nought)))
 
-pub entries_before : (a : Arrays) (P : Places a) → AreWidths (entries_of a) P.cells
-entries_before a P = fewer (entries_of a) P.cells (length a.cell_asks) (omega (arith, P.asks)) (cells_known a)
+-- what the arrays before the targets say of places
+pub record Places (a : Arrays) : Type 0 where
+  pub uses : ℕ
+  pub cells : ℕ
+  pub uses_are : uses_end a ≡ Some (pos uses)
+  pub cells_are : cells_end a ≡ Some (pos cells)
+  pub asks : length a.cell_asks ≡ cells + 1
+  pub use_len : (if shares a then length a.cell_uses else length a.cell_asks) ≡ uses + 1
+  pub used : (p : ℕ) → p < uses → used_cell a p ≡ Some (pos (cell_used a p))
+  pub within : (p : ℕ) → p < uses → cell_used a p < cells
+  pub offsets : (s : ℕ) → s < states a → sum_before (uses_of a) s ≡ Some (pos (number_at a.cell_offsets s))
+  pub most : (s to : ℕ) → s ≤ states a → sum_before (uses_of a) s ≡ Some (pos to) → to ≤ uses
+  pub rises : (s from to : ℕ) → s < states a → sum_before (uses_of a) s ≡ Some (pos from) → sum_before (uses_of a) (s + 1) ≡ Some (pos to) → from ≤ to
+  pub entries : (c : ℕ) → c < cells → sum_before (entries_of a) c ≡ Some (pos (number_at a.cell_entries c))
 
--- the places of the entries, without the closing element
-pub firsts_len : (a : Arrays) (P : Places a) → length (take P.cells a.cell_entries) ≡ P.cells
-firsts_len a P = omega (arith, length-take P.cells a.cell_entries, P.entries_len)
+module _ (a : Arrays) (sound : SoundBefore a 9) where
+  widths : AreWidths (uses_of a) (states a)
+  widths =
+      let singles : FirstWrong a the.SingleLengths None = sound 3 (lit< tt) in
+      let ranges : FirstWrong a the.RangeLengths None = sound 4 (lit< tt) in
+      states_known a singles ranges
 
-pub firsts_are : (a : Arrays) (P : Places a) (k : ℕ) → k < P.cells → slice_get (take P.cells a.cell_entries) k ≡ Some (total (entries_of a) k)
-firsts_are a P k lt =
-    let d = total (entries_of a) k in
-    let len = firsts_len a P in
-    let there : slice_get (take P.cells a.cell_entries) k ≡ Some (slice_index_or (take P.cells a.cell_entries) k d) = slice_get-get_or (take P.cells a.cell_entries) k d (omega (arith, len)) in
-    let same : slice_index_or (take P.cells a.cell_entries) k d ≡ slice_index_or a.cell_entries k d = get_or-take P.cells a.cell_entries k d lt in
-    let is : slice_index_or a.cell_entries k d ≡ d = get_or_from_slice_get a.cell_entries k d d (P.entries k lt) in
-    there ∙ ap (λ (x : ℤ). Some x) (same ∙ is)
+  offsets_right : FirstWrong a the.CellOffsets None
+  offsets_right = sound 5 (lit< tt)
 
-pub cell_found : (a : Arrays) (P : Places a) (e r : ℕ) → IsInside (entries_end a) e → r ≤ length (take P.cells a.cell_entries)
-    → IsPartitionPoint (λ y. y ≤ℤ pos e) (λ y. pos e <ℤ y) (take P.cells a.cell_entries) r → (0 < r) × IsIn (entries_of a) (r - 1) e × IsInside (cells_end a) (r - 1)
-cell_found a P e r inside le point =
-    let below : pos e <ℤ total (entries_of a) P.cells = rw (all_entries a P) at inside in
-    let len = firsts_len a P in
-    let found = found_in (entries_of a) P.cells (entries_before a P) (take P.cells a.cell_entries) e r len (firsts_are a P) below le point in
-    let first : 0 < r = found.0 in
-    (first, found.1, rw (all_cells a P) (omega (arith, ints, len)))
+  uses_right : FirstWrong a the.CellUses None
+  uses_right = sound 6 (lit< tt)
 
-pub state_found : (a : Arrays) (P : Places a) (c r : ℕ) → IsInside (cells_end a) c → r ≤ length a.cell_offsets
-    → IsPartitionPoint (λ y. y ≤ℤ pos c) (λ y. pos c <ℤ y) a.cell_offsets r → (0 < r) × IsIn (cells_of a) (r - 1) c × (r - 1 < states a)
-state_found a P c r inside le point =
-    let low : pos c <ℤ pos P.cells = rw (all_cells a P) at inside in
-    let e = P.cells_are in
-    let below : pos c <ℤ total (cells_of a) (states a) = omega (arith, ints, low, e) in
-    let found = found_in (cells_of a) (states a) P.states_are a.cell_offsets c r P.offsets_len P.offsets below le point in
-    let first : 0 < r = found.0 in
-    (first, found.1, omega (arith, P.offsets_len))
+  asks_right : FirstWrong a the.CellAsks None
+  asks_right = sound 7 (lit< tt)
 
-cell_below : (a : Arrays) (P : Places a) (s c : ℕ) → s < states a → IsIn (cells_of a) s c → c < P.cells
-cell_below a P s c lt k =
-    let b = in_below (cells_of a) (states a) P.states_are s c lt k in
-    omega (arith, ints, b, P.cells_are)
+  entries_right : FirstWrong a the.CellEntries None
+  entries_right = sound 8 (lit< tt)
 
--- an entry is of one state
-pub entry_one : (a : Arrays) (P : Places a) (s c e : ℕ) → s < states a → IsIn (cells_of a) s c → IsIn (entries_of a) c e → (t : ℕ) → IsEntryOf a t e ↔ (t ≡ s)
-entry_one a P s c e lt x y t = (
-  λ k.
-      let l : c < P.cells = cell_below a P s c lt x in
-      let m : k.cell < P.cells = cell_below a P t k.cell k.state k.of_state in
-      let same : k.cell ≡ c = one_in (entries_of a) P.cells (entries_before a P) k.cell c e m l k.of_cell y in
-      let of_state : IsIn (cells_of a) t c = subst (λ (z : ℕ). IsIn (cells_of a) t z) same k.of_state in
-      one_in (cells_of a) (states a) P.states_are t s c k.state lt of_state x,
-  λ same. rw same (record { cell = c; state = lt; of_state = x; of_cell = y }),
+  abbrev use_count : ℕ
+  use_count = natural (total (uses_of a) (states a))
+
+  uses_are : uses_end a ≡ Some (pos use_count)
+  uses_are =
+      let low = rise (uses_of a) (states a) widths 0 (states a) (omega arith) (omega arith) in
+      let nought = total_none (uses_of a) in
+      known (uses_of a) (states a) widths (states a) (omega arith) ∙ ap (λ (x : ℤ). Some x) (counted (total (uses_of a) (states a)) (omega (arith, ints, low, nought)))
+
+  asks_due : length a.cell_asks ≡ one_more (cells_end a) (length a.cell_asks)
+  asks_due = all_due (length a.cell_asks) (one_more (cells_end a) (length a.cell_asks)) (λ k lt. (asks_right k (omega arith)).due) (λ k lt. (asks_right k (omega arith)).there)
+
+  abbrev uses_due : ℕ
+  uses_due = if shares a then one_more (uses_end a) (length a.cell_uses) else 0
+
+  uses_len : length a.cell_uses ≡ uses_due
+  uses_len = all_due (length a.cell_uses) uses_due (λ k lt. (uses_right k (omega arith)).due) (λ k lt. (uses_right k (omega arith)).there)
+
+  record Shared : Type 0 where
+    cells : ℕ
+    cells_are : cells_end a ≡ Some (pos cells)
+    asks : length a.cell_asks ≡ cells + 1
+    use_len : (if shares a then length a.cell_uses else length a.cell_asks) ≡ use_count + 1
+    used : (p : ℕ) → p < use_count → used_cell a p ≡ Some (pos (cell_used a p))
+    within : (p : ℕ) → p < use_count → cell_used a p < cells
+
+  -- each use has a cell of its own
+  own_cells : shares a ≡ false → Shared
+  own_cells e =
+      let same : cells_end a ≡ Some (pos use_count) = rw e uses_are in
+      let len : length a.cell_asks ≡ use_count + 1 = asks_due ∙ one_more_is (cells_end a) use_count (length a.cell_asks) same in
+      record {
+        cells = use_count;
+        cells_are = same;
+        asks = len;
+        use_len = rw e len;
+        used = λ p lt. rw e refl;
+        within = λ p lt. rw e lt;
+      }
+
+  -- uses name their cells
+  shared_cells : shares a ≡ true → Shared
+  shared_cells e =
+      let few = length a.cell_asks - 1 in
+      let same : cells_end a ≡ Some (pos few) = rw e refl in
+      let due : length a.cell_uses ≡ one_more (uses_end a) (length a.cell_uses) = rw e at uses_len in
+      let len : length a.cell_uses ≡ use_count + 1 = due ∙ one_more_is (uses_end a) use_count (length a.cell_uses) uses_are in
+      record {
+        cells = few;
+        cells_are = same;
+        asks = asks_due ∙ one_more_is (cells_end a) few (length a.cell_asks) same;
+        use_len = rw e len;
+        used = λ p lt. (let h = use_of p lt (omega (arith, len)) in let is : slice_get a.cell_uses p ≡ Some (pos (number_at a.cell_uses p)) = h.0 in rw e is);
+        within = λ p lt. (let h = use_of p lt (omega (arith, len)) in let less : number_at a.cell_uses p < length a.cell_asks - 1 = h.1 in rw e less);
+      }
+    where
+      use_of : (p : ℕ) → p < use_count → p < length a.cell_uses → (slice_get a.cell_uses p ≡ Some (pos (number_at a.cell_uses p))) × (number_at a.cell_uses p < length a.cell_asks - 1)
+      use_of p lt here =
+          let x = slice_index_or a.cell_uses p (pos 0) in
+          let there : slice_get a.cell_uses p ≡ Some x = slice_get-get_or a.cell_uses p (pos 0) here in
+          let r : Right a the.CellUses p = uses_right p (omega arith) in
+          let says : IfAt a.cell_uses p (UseSays a p) = r.says in
+          let said : UseSays a p x = rw there at says in
+          let not_closing : IsClosing (uses_end a) p → ⊥ = λ at'. (let same = some_pos use_count p (sym uses_are ∙ at') in omega arith) in
+          let number : x ≡ pos (number_at a.cell_uses p) = number-is a.cell_uses p x there said.positive in
+          let few : x <ℤ pos (length a.cell_asks - 1) = said.known not_closing in
+          (there ∙ ap (λ (z : ℤ). Some z) number, omega (arith, ints, number, few))
+
+  shared_by : (b : Bool) → shares a ≡ b → Shared
+  shared_by false e = own_cells e
+  shared_by true e = shared_cells e
+
+  entry_sum : (S : Shared) (c : ℕ) → c < S.cells → sum_before (entries_of a) c ≡ Some (pos (number_at a.cell_entries c))
+  entry_sum S c lt =
+      let len = S.asks in
+      let r : Right a the.CellEntries c = entries_right c (omega (arith, len)) in
+      let not_closing : IsClosing (cells_end a) c → ⊥ = λ at'. (let same = some_pos S.cells c (sym S.cells_are ∙ at') in omega arith) in
+      let sum : IfAt a.cell_entries c (IsSum (entries_of a) c) = IfSome_then (slice_get a.cell_entries c) r.says (λ x p. p.sum not_closing) in
+      placed a.cell_entries (entries_of a) (length a.cell_asks) c (cells_known a) (omega (arith, len)) r.there sum
+
+  offset_sum : (s : ℕ) → s < states a → sum_before (uses_of a) s ≡ Some (pos (number_at a.cell_offsets s))
+  offset_sum s lt = let r = offsets_right s (omega arith) in placed a.cell_offsets (uses_of a) (states a) s widths (omega arith) r.there r.says
+
+  sum_rises : (s t from to : ℕ) → s ≤ t → t ≤ states a → sum_before (uses_of a) s ≡ Some (pos from) → sum_before (uses_of a) t ≡ Some (pos to) → from ≤ to
+  sum_rises s t from to le few e f =
+      let r : total (uses_of a) s ≤ℤ total (uses_of a) t = rise (uses_of a) (states a) widths s t le few in
+      let low : total (uses_of a) s ≡ pos from = rw e refl in
+      let high : total (uses_of a) t ≡ pos to = rw f refl in
+      omega (arith, ints, r, low, high)
+
+  pub places_of : Places a
+  places_of = let S = shared_by (shares a) refl in record {
+    uses = use_count;
+    cells = S.cells;
+    uses_are = uses_are;
+    cells_are = S.cells_are;
+    asks = S.asks;
+    use_len = S.use_len;
+    used = S.used;
+    within = S.within;
+    offsets = λ s lt. offset_sum s lt;
+    most = λ s to le e. sum_rises s (states a) to use_count le (omega arith) e uses_are;
+    rises = λ s from to lt e f. sum_rises s (s + 1) from to (omega arith) (omega arith) e f;
+    entries = λ c lt. entry_sum S c lt;
+  }
+
+pub inside_uses : (a : Arrays) (P : Places a) (p : ℕ) → IsInside (uses_end a) p ↔ (p < P.uses)
+inside_uses a P p = (
+  λ h. (let low : pos p <ℤ pos P.uses = rw P.uses_are at h in omega (arith, ints, low)),
+  λ lt. (let low : pos p <ℤ pos P.uses = omega (arith, ints) in rw P.uses_are low),
 )
 
-pub entry_inside : (a : Arrays) (P : Places a) (s e : ℕ) → IsEntryOf a s e → IsInside (entries_end a) e
-entry_inside a P s e k =
-    let m : k.cell < P.cells = cell_below a P s k.cell k.state k.of_state in
-    let b : pos e <ℤ total (entries_of a) P.cells = in_below (entries_of a) P.cells (entries_before a P) k.cell e m k.of_cell in
-    rw (all_entries a P) b
+pub inside_cells : (a : Arrays) (P : Places a) (c : ℕ) → IsInside (cells_end a) c ↔ (c < P.cells)
+inside_cells a P c = (
+  λ h. (let low : pos c <ℤ pos P.cells = rw P.cells_are at h in omega (arith, ints, low)),
+  λ lt. (let low : pos c <ℤ pos P.cells = omega (arith, ints) in rw P.cells_are low),
+)
+
+pub used_exists : (a : Arrays) (P : Places a) (p c : ℕ) → p < P.uses → used_cell a p ≡ Some (pos c) → c < P.cells
+used_exists a P p c lt e =
+    let same : cell_used a p ≡ c = some_pos (cell_used a p) c (sym (P.used p lt) ∙ e) in
+    let less = P.within p lt in
+    omega (arith, same, less)
+
+-- where the entries of a cell begin and end
+pub cell_entries : (a : Arrays) (P : Places a) (c e : ℕ) → c < P.cells
+    → IsIn (entries_of a) c e ↔ ((pos (number_at a.cell_entries c) ≤ℤ pos e) × (pos e <ℤ (pos (number_at a.cell_entries c) +ℤ pos (2 ^ count_ones (number_at a.cell_asks c)))))
+cell_entries a P c e lt =
+    let first = number_at a.cell_entries c in
+    let x = slice_index_or a.cell_asks c (pos 0) in
+    let there : slice_get a.cell_asks c ≡ Some x = slice_get-get_or a.cell_asks c (pos 0) (omega (arith, P.asks)) in
+    let asks : number_at a.cell_asks c ≡ natural x = rw there refl in
+    let width : entries_of a c ≡ Some (pos (2 ^ count_ones (number_at a.cell_asks c))) = rw (asks, there) refl in
+    let sum : sum_before (entries_of a) c ≡ Some (pos first) = P.entries c lt in
+    let next : sum_before (entries_of a) (c + 1) ≡ Some (pos first +ℤ pos (2 ^ count_ones (number_at a.cell_asks c))) = rw (sum-more (entries_of a) c, sum, width) refl in
+    in_between (entries_of a) c e (pos first) (pos first +ℤ pos (2 ^ count_ones (number_at a.cell_asks c))) sum next
+
+pub state_uses : (a : Arrays) (s from to : ℕ) → sum_before (uses_of a) s ≡ Some (pos from) → sum_before (uses_of a) (s + 1) ≡ Some (pos to)
+    → (place : ℕ) → IsIn (uses_of a) s place ↔ ((from ≤ place) × (place < to))
+state_uses a s from to e f place =
+    let b = in_between (uses_of a) s place (pos from) (pos to) e f in (
+      λ k. (let h = b.0 k in (omega (arith, ints, h), omega (arith, ints, h))),
+      λ h. b.1 (omega (arith, ints, h), omega (arith, ints, h)),
+    )
+
+pub shared_len : (a : Arrays) (P : Places a) → shares a ≡ true → length a.cell_uses ≡ P.uses + 1
+shared_len a P e = rw e at P.use_len
+
+pub own_len : (a : Arrays) (P : Places a) → shares a ≡ false → length a.cell_asks ≡ P.uses + 1
+own_len a P e = rw e at P.use_len
+
+-- a place is among the entries of a cell that an array with so many elements has
+pub clipped_entries : (a : Arrays) (P : Places a) (c has from to : ℕ) (first next : ℤ) → c < P.cells
+    → ((k : ℕ) → k < from → pos k <ℤ first) → ((k : ℕ) → from ≤ k → k < has → first ≤ℤ pos k)
+    → ((k : ℕ) → k < to → pos k <ℤ next) → ((k : ℕ) → to ≤ k → k < has → next ≤ℤ pos k)
+    → first ≡ pos (number_at a.cell_entries c) → next ≡ pos (number_at a.cell_entries c) +ℤ pos (2 ^ count_ones (number_at a.cell_asks c))
+    → (e : ℕ) → e < has → IsIn (entries_of a) c e ↔ ((from ≤ e) × (e < to))
+clipped_entries a P c has from to first next lt below above below' above' f n e le =
+    let k = cell_entries a P c e lt in (
+      λ m. (
+          let h = k.0 m in
+          let low : from ≤ e = elim (cases_lt e from) [ inl less ↦ (let b = below e less in absurd (omega (arith, ints, h, f, b))) | inr ge ↦ ge ] in
+          let high : e < to = elim (cases_lt e to) [ inl less ↦ less | inr ge ↦ (let b = above' e ge le in absurd (omega (arith, ints, h, n, b))) ] in
+          (low, high)
+          ),
+      λ r. (let b = above e r.0 le in let b' = below' e r.1 in k.1 (omega (arith, ints, f, b), omega (arith, ints, n, b'))),
+    )
+
+pub pos-less : (m n : ℕ) → m < n → pos m <ℤ pos n
+pos-less m n lt = omega (arith, ints)

@@ -19,7 +19,7 @@ use Rattle.rl_arrays.specs.Valid.{Valid}
 use Rattle.rl_arrays.specs.TableMachine.{machine, find, step_of, entry_of, cell_of}
 use Rattle.rl_tables.proofs.Elements.{right, has-due, element, if_at, is_at, number-at, number_none, nonneg, between, is_between}
 use Rattle.rl_tables.proofs.Totals.{total, total-suc}
-use Rattle.rl_tables.proofs.Places.{then_some, map_some, cells, cell_is, entry_is}
+use Rattle.rl_tables.proofs.Places.{then_some, map_some, uses, cell_is, entry_is}
 
 module _ (a : Arrays) (valid : Valid a) where
   -- what is said of a state's kind
@@ -142,10 +142,10 @@ module _ (a : Arrays) (valid : Valid a) where
           let found = then_some (step_of a) (entry_of a s key hold) g f in
           let c = map_some _ (cell_of a s key) found.0 found.1 in
           let within = cell_is a valid s key c.0 c.1 in
-          absurd (none c.0 m n within.1 within.2)
+          absurd (none within.place m n within.from within.to)
         where
-          none : (c : ℕ) → number_at a.single_lengths s ≡ 0 → number_at a.range_lengths s ≡ 0 → total (cells a valid) s ≤ c → c < total (cells a valid) (s + 1) → ⊥
-          none c m n low high = let next = total-suc (cells a valid) s in omega arith
+          none : (p : ℕ) → number_at a.single_lengths s ≡ 0 → number_at a.range_lengths s ≡ 0 → total (uses a valid) s ≤ p → p < total (uses a valid) (s + 1) → ⊥
+          none p m n low high = let next = total-suc (uses a valid) s in omega arith
 
   target_there : (s e : ℕ) (g : Go ℕ) → IsStepOf s e g → g.target < states a
   target_there s e g x = let n = state_is x.target x.says.state in let same = x.same in omega arith

@@ -12,4 +12,5 @@ pub mod Places
 pub mod Shifts
 pub mod SmallArrays
 pub mod SumLaws
+pub mod TargetLaws
 pub mod Totals

@@ -1,4 +1,4 @@
--- The arrays of a small machine are valid, and of seven changes of them the first element that is not right.
+-- The arrays of a small machine are valid, and of ten changes of them the first element that is not right.
 use lib.Count.{ones}
 use Rattle.std.proofs.Common.{◌≡◌, ◌≢◌, ℕ, zero, suc, ◌+◌, ◌*◌, ◌<◌, ◌≤◌, List, [], ◌∷◌, Some, None, refl, ap, arith, codes, inl, inr, lit<, true, false}
 use Rattle.std.proofs.lemmas.Bool.{cases_lt}
@@ -15,7 +15,7 @@ use Rattle.rl_arrays.specs.KeyRules.{IsSingle, IsEnd, KeySays}
 use Rattle.rl_arrays.specs.Rules.{HasKind, LengthSays, AskSays, TargetOf, TargetSays, StepListSays, ListSays, EndListSays, TokenListSays, KindSays, HomeSays, CountSays, Says}
 use Rattle.rl_arrays.specs.Valid.{Right, span, FirstWrong, SoundBefore, IsBad}
 use Rattle.rl_arrays.proofs.Order.{all_sound}
-use Rattle.rl_tables.specs.Rows.{one, OneIsValid, NoSuchKey, NoSuchCondition, NoSuchState, NoListBegins, TooFewLists, NoSuchAction, FinalBehindAll}
+use Rattle.rl_tables.specs.Rows.{one, OneIsValid, NoSuchKey, NoSuchCondition, NoSuchState, NoListBegins, TooFewLists, NoSuchAction, FinalBehindAll, NoSuchVersion, UsesInVersionOne, NoSuchCell}
 
 -- ---- what holds of so many numbers, one by one
 
@@ -48,8 +48,27 @@ apart m n ne e = absurd (ne (ap natural (some_same (pos m) (pos n) e)))
 
 -- ---- changes of the arrays
 
-abbrev changed : ℤ → List ℤ → List ℤ → List ℤ → List ℤ → List ℤ → Arrays
-changed first_final keys asks targs lists from_lists = record one { first_final = first_final; trans_keys = keys; cell_asks = asks; trans_targs = targs; trans_lists = lists; from_lists = from_lists }
+-- the version, the uses of cells, the least final state
+record Head : Type 0 where
+  version : ℤ
+  uses : List ℤ
+  first_final : ℤ
+
+-- in version 1
+abbrev head_one : ℤ → Head
+head_one first_final = record { version = pos 1; uses = []; first_final = first_final }
+
+abbrev changed : Head → List ℤ → List ℤ → List ℤ → List ℤ → List ℤ → Arrays
+changed head keys asks targs lists from_lists = record one {
+  version = head.version;
+  first_final = head.first_final;
+  trans_keys = keys;
+  cell_uses = head.uses;
+  cell_asks = asks;
+  trans_targs = targs;
+  trans_lists = lists;
+  from_lists = from_lists;
+}
 
 abbrev keys : List ℤ
 keys = one.trans_keys
@@ -68,7 +87,7 @@ zeros = one.from_lists
 
 -- ---- actions, and the numbers of keys and cells
 
-module _ (f : ℤ) (keys asks targs lists froms : List ℤ) where
+module _ (f : Head) (keys asks targs lists froms : List ℤ) where
   abbrev changed_all : Arrays
   changed_all = changed f keys asks targs lists froms
 
@@ -145,7 +164,7 @@ module _ (f : ℤ) (keys asks targs lists froms : List ℤ) where
 
 -- ---- keys
 
-first_key : (f : ℤ) (second : ℤ) (asks targs lists froms : List ℤ) → KeySays (changed f (pos 97 ∷ second ∷ pos 0 ∷ []) asks targs lists froms) 0 (pos 97)
+first_key : (f : Head) (second : ℤ) (asks targs lists froms : List ℤ) → KeySays (changed f (pos 97 ∷ second ∷ pos 0 ∷ []) asks targs lists froms) 0 (pos 97)
 unfolding sum_before
 first_key f second asks targs lists froms = record {
   closing = λ e. apart 2 0 (omega arith) e;
@@ -156,7 +175,7 @@ first_key f second asks targs lists froms = record {
   apart = λ s q r other k. no_end f (pos 97 ∷ second ∷ pos 0 ∷ []) asks targs lists froms s (2 * q) 0 k;
 }
 
-module _ (f : ℤ) (asks targs lists froms : List ℤ) where
+module _ (f : Head) (asks targs lists froms : List ℤ) where
   abbrev changed_behind_keys : Arrays
   changed_behind_keys = changed f keys asks targs lists froms
 
@@ -189,9 +208,12 @@ module _ (f : ℤ) (asks targs lists froms : List ℤ) where
 
 -- ---- cells
 
+no_uses_right : (f : ℤ) (asks targs lists froms : List ℤ) → FirstWrong (changed (head_one f) keys asks targs lists froms) the.CellUses None
+no_uses_right f asks targs lists froms = rights (changed (head_one f) keys asks targs lists froms) the.CellUses 0 refl refl tt
+
 module _ (f : ℤ) (targs lists froms : List ℤ) where
   abbrev changed_behind_cells : Arrays
-  changed_behind_cells = changed f keys asks targs lists froms
+  changed_behind_cells = changed (head_one f) keys asks targs lists froms
 
   nothing_asked : (c : ℕ) → AskSays changed_behind_cells c (pos 0)
   nothing_asked c = record { closing = λ e. refl; positive = omega (arith, ints); known = lit< tt }
@@ -216,14 +238,14 @@ module _ (f : ℤ) (targs lists froms : List ℤ) where
   plain_target : (s : ℕ) (target : ℤ) → IsSomeAnd (slice_get one.state_kinds (natural target)) (IsBetween 0 0) → TargetOf changed_behind_cells s target
   plain_target s target plain = record {
     plain = λ k. plain_one (natural target) plain;
-    inner = λ k. never f keys asks targs lists froms s 1 3 (omega arith) k;
-    home = λ k. never f keys asks targs lists froms s 1 3 (omega arith) k;
+    inner = λ k. never (head_one f) keys asks targs lists froms s 1 3 (omega arith) k;
+    home = λ k. never (head_one f) keys asks targs lists froms s 1 3 (omega arith) k;
   }
     where
       plain_one : (t : ℕ) → IsSomeAnd (slice_get one.state_kinds t) (IsBetween 0 0) → IfSome (slice_get one.state_kinds t) (IsBetween 0 0)
       plain_one t p = elim (slice_get one.state_kinds t) as (λ o. IsSomeAnd o (IsBetween 0 0) → IfSome o (IsBetween 0 0)) [ None ↦ λ p. absurd p | Some x ↦ λ p. p ] p
 
-first_target : (f : ℤ) (second : ℤ) (lists froms : List ℤ) → TargetSays (changed f keys asks (pos 2 ∷ second ∷ pos 0 ∷ []) lists froms) 0 (pos 2)
+first_target : (f : ℤ) (second : ℤ) (lists froms : List ℤ) → TargetSays (changed (head_one f) keys asks (pos 2 ∷ second ∷ pos 0 ∷ []) lists froms) 0 (pos 2)
 unfolding sum_before ones
 first_target f second lists froms = record {
   closing = λ e. apart 2 0 (omega arith) e;
@@ -233,7 +255,7 @@ first_target f second lists froms = record {
 
 module _ (f : ℤ) (lists froms : List ℤ) where
   abbrev changed_behind_targets : Arrays
-  changed_behind_targets = changed f keys asks targs lists froms
+  changed_behind_targets = changed (head_one f) keys asks targs lists froms
 
   trans_targs_right : FirstWrong changed_behind_targets the.TransTargs None
   unfolding sum_before ones
@@ -266,13 +288,13 @@ list_of_x : IsList one.actions (pos 1)
 unfolding left_at
 list_of_x = record { positive = omega (arith, ints); within = lit< tt; begins = refl }
 
-first_list : (f : ℤ) (second : ℤ) (froms : List ℤ) → StepListSays (changed f keys asks targs (pos 1 ∷ second ∷ pos 0 ∷ []) froms) 0 (pos 1)
+first_list : (f : ℤ) (second : ℤ) (froms : List ℤ) → StepListSays (changed (head_one f) keys asks targs (pos 1 ∷ second ∷ pos 0 ∷ []) froms) 0 (pos 1)
 unfolding sum_before ones
 first_list f second froms = record { closing = λ e. apart 2 0 (omega arith) e; list = list_of_x; stays = λ e. apart 2 0 (omega arith) e }
 
 module _ (f : ℤ) (froms : List ℤ) where
   abbrev changed_behind_steps : Arrays
-  changed_behind_steps = changed f keys asks targs lists froms
+  changed_behind_steps = changed (head_one f) keys asks targs lists froms
 
   trans_lists_right : FirstWrong changed_behind_steps the.TransLists None
   unfolding sum_before ones
@@ -287,14 +309,14 @@ module _ (f : ℤ) (froms : List ℤ) where
     ),
   )
 
-no_list : (f : ℤ) (froms : List ℤ) (s : ℕ) → ListSays (changed f keys asks targs lists froms) s (pos 0)
+no_list : (f : ℤ) (froms : List ℤ) (s : ℕ) → ListSays (changed (head_one f) keys asks targs lists froms) s (pos 0)
 no_list f froms s = record { list = empty_list; error = λ e. refl }
 
 -- ---- what does not depend on the least final state
 
 module _ (f : ℤ) where
   abbrev other_final : Arrays
-  other_final = changed f keys asks targs lists zeros
+  other_final = changed (head_one f) keys asks targs lists zeros
 
   from_lists_right : FirstWrong other_final the.FromLists None
   from_lists_right = rights other_final the.FromLists 4 refl refl (no_list f zeros 0, (no_list f zeros 1, (no_list f zeros 2, (no_list f zeros 3, tt))))
@@ -329,7 +351,7 @@ module _ (f : ℤ) where
   state_kinds_right = rights other_final the.StateKinds 4 refl refl (plain_kind 0, (plain_kind 1, (plain_kind 2, (plain_kind 3, tt))))
 
   no_home : (s : ℕ) → HomeSays other_final s (pos 0)
-  no_home s = record { plain = λ k. refl; scanner = λ k. never f keys asks targs lists zeros s 1 4 (omega arith) k }
+  no_home s = record { plain = λ k. refl; scanner = λ k. never (head_one f) keys asks targs lists zeros s 1 4 (omega arith) k }
 
   homes_right : FirstWrong other_final the.Homes None
   homes_right = rights other_final the.Homes 4 refl refl (no_home 0, (no_home 1, (no_home 2, (no_home 3, tt))))
@@ -414,30 +436,33 @@ more a m n before h k less = elim (cases_lt k m) [
 none_before : (a : Arrays) → SoundBefore a 0
 none_before a k h = absurd (omega arith)
 
-sound_offsets : (f : ℤ) (keys asks targs lists froms : List ℤ) → SoundBefore (changed f keys asks targs lists froms) 2
-sound_offsets f keys asks targs lists froms = let a = changed f keys asks targs lists froms in
-    more a 0 2 (none_before a) (actions_right f keys asks targs lists froms, (key_offsets_right f keys asks targs lists froms, tt))
+sound_offsets : (h : Head) (keys asks targs lists froms : List ℤ) → SoundBefore (changed h keys asks targs lists froms) 2
+sound_offsets h keys asks targs lists froms = let a = changed h keys asks targs lists froms in
+    more a 0 2 (none_before a) (actions_right h keys asks targs lists froms, (key_offsets_right h keys asks targs lists froms, tt))
 
-sound_keys : (f : ℤ) (asks targs lists froms : List ℤ) → SoundBefore (changed f keys asks targs lists froms) 6
-sound_keys f asks targs lists froms = more (changed f keys asks targs lists froms) 2 4 (sound_offsets f keys asks targs lists froms)
-    (trans_keys_right f asks targs lists froms, (single_lengths_right f keys asks targs lists froms, (range_lengths_right f keys asks targs lists froms, (cell_offsets_right f keys asks targs lists froms, tt))))
+sound_keys : (h : Head) (asks targs lists froms : List ℤ) → SoundBefore (changed h keys asks targs lists froms) 6
+sound_keys h asks targs lists froms = more (changed h keys asks targs lists froms) 2 4 (sound_offsets h keys asks targs lists froms)
+    (trans_keys_right h asks targs lists froms, (single_lengths_right h keys asks targs lists froms, (range_lengths_right h keys asks targs lists froms, (cell_offsets_right h keys asks targs lists froms, tt))))
 
-sound_entries : (f : ℤ) (targs lists froms : List ℤ) → SoundBefore (changed f keys asks targs lists froms) 8
-sound_entries f targs lists froms = more (changed f keys asks targs lists froms) 6 2 (sound_keys f asks targs lists froms)
+sound_uses : (f : ℤ) (asks targs lists froms : List ℤ) → SoundBefore (changed (head_one f) keys asks targs lists froms) 7
+sound_uses f asks targs lists froms = more (changed (head_one f) keys asks targs lists froms) 6 1 (sound_keys (head_one f) asks targs lists froms) (no_uses_right f asks targs lists froms, tt)
+
+sound_entries : (f : ℤ) (targs lists froms : List ℤ) → SoundBefore (changed (head_one f) keys asks targs lists froms) 9
+sound_entries f targs lists froms = more (changed (head_one f) keys asks targs lists froms) 7 2 (sound_uses f asks targs lists froms)
     (cell_asks_right f targs lists froms, (cell_entries_right f targs lists froms, tt))
 
-sound_cells : (f : ℤ) (lists froms : List ℤ) → SoundBefore (changed f keys asks targs lists froms) 9
-sound_cells f lists froms = more (changed f keys asks targs lists froms) 8 1 (sound_entries f targs lists froms) (trans_targs_right f lists froms, tt)
+sound_cells : (f : ℤ) (lists froms : List ℤ) → SoundBefore (changed (head_one f) keys asks targs lists froms) 10
+sound_cells f lists froms = more (changed (head_one f) keys asks targs lists froms) 9 1 (sound_entries f targs lists froms) (trans_targs_right f lists froms, tt)
 
-sound_steps : (f : ℤ) (froms : List ℤ) → SoundBefore (changed f keys asks targs lists froms) 10
-sound_steps f froms = more (changed f keys asks targs lists froms) 9 1 (sound_cells f lists froms) (trans_lists_right f froms, tt)
+sound_steps : (f : ℤ) (froms : List ℤ) → SoundBefore (changed (head_one f) keys asks targs lists froms) 11
+sound_steps f froms = more (changed (head_one f) keys asks targs lists froms) 10 1 (sound_cells f lists froms) (trans_lists_right f froms, tt)
 
-sound_states : (f : ℤ) → SoundBefore (changed f keys asks targs lists zeros) 17
-sound_states f = more (changed f keys asks targs lists zeros) 10 7 (sound_steps f zeros)
+sound_states : (f : ℤ) → SoundBefore (changed (head_one f) keys asks targs lists zeros) 18
+sound_states f = more (changed (head_one f) keys asks targs lists zeros) 11 7 (sound_steps f zeros)
     (from_lists_right f, (to_lists_right f, (eof_lists_right f, (error_lists_right f, (accept_lists_right f, (state_kinds_right f, (homes_right f, tt)))))))
 
-sound_names : (f : ℤ) → SoundBefore (changed f keys asks targs lists zeros) 26
-sound_names f = more (changed f keys asks targs lists zeros) 17 9 (sound_states f)
+sound_names : (f : ℤ) → SoundBefore (changed (head_one f) keys asks targs lists zeros) 27
+sound_names f = more (changed (head_one f) keys asks targs lists zeros) 18 9 (sound_states f)
     (action_names_right f, (stmt_firsts_right f, (stmt_counts_right f, (stmt_kinds_right f, (stmt_outer_right f, (stmt_args_right f, (stmt_bases_right f, (cond_names_right f, (entry_names_right f, tt)))))))))
 
 entry_states_right : FirstWrong one the.EntryStates None
@@ -463,22 +488,25 @@ entry_states_right = rights one the.EntryStates 2 refl refl (
 
 -- ---- the rows
 
+is_one : IsBetween 1 2 (pos 1)
+is_one = (omega (arith, ints), omega (arith, ints))
+
 pub one_is_valid : OneIsValid
-one_is_valid = all_sound one (more one 26 1 (sound_names (pos 3)) (entry_states_right, tt))
+one_is_valid = all_sound one is_one (more one 27 1 (sound_names (pos 3)) (entry_states_right, tt))
 
 -- of an index that is wrong, where those before it are right
-wrong : (a : Arrays) (place : ℕ) (array : ArrayName) (i : ℕ) → slice_get ORDER place ≡ Some array → i < span a array → (Right a array i → ⊥) → AllFrom (Right a array) 0 i → SoundBefore a place → IsBad a (record { array = array; index = i })
-wrong a place array i e less not_right h before = record { place = place; array = e; index = (less, not_right, below (Right a array) i h); before = before }
+wrong : (a : Arrays) (place : ℕ) (array : ArrayName) (i : ℕ) → IsBetween 1 2 a.version → slice_get ORDER place ≡ Some array → i < span a array → (Right a array i → ⊥) → AllFrom (Right a array) 0 i → SoundBefore a place → IsBad a (record { array = array; index = i })
+wrong a place array i version e less not_right h before = inr (record { version = version; place = place; array = e; index = (less, not_right, below (Right a array) i h); before = before })
 
 abbrev other_keys : List ℤ
 other_keys = pos 97 ∷ pos 200 ∷ pos 0 ∷ []
 
 pub no_such_key : NoSuchKey
 unfolding sum_before
-no_such_key = wrong (changed (pos 3) other_keys asks targs lists zeros) 2 the.TransKeys 1 refl (lit< tt)
+no_such_key = wrong (changed (head_one (pos 3)) other_keys asks targs lists zeros) 2 the.TransKeys 1 is_one refl (lit< tt)
     (λ r. not_key (r.says.single 2 0 (record { state = lit< tt; place_is = refl; within = omega (arith, ints) })))
-    (record { there = lit< tt; due = lit< tt; says = first_key (pos 3) (pos 200) asks targs lists zeros }, tt)
-    (sound_offsets (pos 3) other_keys asks targs lists zeros)
+    (record { there = lit< tt; due = lit< tt; says = first_key (head_one (pos 3)) (pos 200) asks targs lists zeros }, tt)
+    (sound_offsets (head_one (pos 3)) other_keys asks targs lists zeros)
   where
     not_key : false ≡ true → ⊥
     not_key e = cc
@@ -488,15 +516,15 @@ other_asks = pos 1 ∷ pos 0 ∷ pos 0 ∷ []
 
 pub no_such_condition : NoSuchCondition
 unfolding sum_before
-no_such_condition = wrong (changed (pos 3) keys other_asks targs lists zeros) 6 the.CellAsks 0 refl (lit< tt)
-    (λ r. let known : 1 < 1 = r.says.known in omega arith) tt (sound_keys (pos 3) other_asks targs lists zeros)
+no_such_condition = wrong (changed (head_one (pos 3)) keys other_asks targs lists zeros) 7 the.CellAsks 0 is_one refl (lit< tt)
+    (λ r. let known : 1 < 1 = r.says.known in omega arith) tt (sound_uses (pos 3) other_asks targs lists zeros)
 
 abbrev other_targs : List ℤ
 other_targs = pos 2 ∷ pos 4 ∷ pos 0 ∷ []
 
 pub no_such_state : NoSuchState
 unfolding sum_before ones
-no_such_state = wrong (changed (pos 3) keys asks other_targs lists zeros) 8 the.TransTargs 1 refl (lit< tt)
+no_such_state = wrong (changed (head_one (pos 3)) keys asks other_targs lists zeros) 9 the.TransTargs 1 is_one refl (lit< tt)
     (λ r. let state = r.says.state.1 in omega (arith, ints, state))
     (record { there = lit< tt; due = lit< tt; says = first_target (pos 3) (pos 4) lists zeros }, tt)
     (sound_entries (pos 3) other_targs lists zeros)
@@ -506,7 +534,7 @@ other_lists = pos 1 ∷ pos 2 ∷ pos 0 ∷ []
 
 pub no_list_begins : NoListBegins
 unfolding sum_before left_at
-no_list_begins = wrong (changed (pos 3) keys asks targs other_lists zeros) 9 the.TransLists 1 refl (lit< tt)
+no_list_begins = wrong (changed (head_one (pos 3)) keys asks targs other_lists zeros) 10 the.TransLists 1 is_one refl (lit< tt)
     (λ r. let begins : 1 ≡ 0 = r.says.list.begins in omega arith)
     (record { there = lit< tt; due = lit< tt; says = first_list (pos 3) (pos 2) zeros }, tt)
     (sound_cells (pos 3) other_lists zeros)
@@ -515,16 +543,16 @@ abbrev three_zeros : List ℤ
 three_zeros = pos 0 ∷ pos 0 ∷ pos 0 ∷ []
 
 pub too_few_lists : TooFewLists
-too_few_lists = wrong (changed (pos 3) keys asks targs lists three_zeros) 10 the.FromLists 3 refl (lit< tt)
+too_few_lists = wrong (changed (head_one (pos 3)) keys asks targs lists three_zeros) 11 the.FromLists 3 is_one refl (lit< tt)
     (λ r. let there : 3 < 3 = r.there in omega arith)
     (is_right 0 (lit< tt) (lit< tt), (is_right 1 (lit< tt) (lit< tt), (is_right 2 (lit< tt) (lit< tt), tt)))
     (sound_steps (pos 3) three_zeros)
   where
-    is_right : (s : ℕ) → s < 3 → s < 4 → Right (changed (pos 3) keys asks targs lists three_zeros) the.FromLists s
+    is_right : (s : ℕ) → s < 3 → s < 4 → Right (changed (head_one (pos 3)) keys asks targs lists three_zeros) the.FromLists s
     is_right s there due = record {
       there = there;
       due = due;
-      says = below (Says (changed (pos 3) keys asks targs lists three_zeros) the.FromLists) 3
+      says = below (Says (changed (head_one (pos 3)) keys asks targs lists three_zeros) the.FromLists) 3
           (no_list (pos 3) three_zeros 0, (no_list (pos 3) three_zeros 1, (no_list (pos 3) three_zeros 2, tt))) s there;
     }
 
@@ -533,7 +561,7 @@ other_actions = record one { actions = pos 0 ∷ pos 1 ∷ pos 2 ∷ [] }
 
 pub no_such_action : NoSuchAction
 unfolding left_at
-no_such_action = wrong other_actions 0 the.Actions 2 refl (lit< tt)
+no_such_action = wrong other_actions 0 the.Actions 2 is_one refl (lit< tt)
     (λ r. let member = (r.says.member (lit< tt)).1 in omega (arith, ints, member)) (
       record { there = lit< tt; due = lit< tt; says = record { empty = λ e. refl; count = λ e. omega (arith, ints); member = λ h. absurd (omega arith) } },
       (record { there = lit< tt; due = lit< tt; says = record { empty = λ e. absurd (omega arith); count = λ e. omega (arith, ints); member = λ h. absurd (omega arith) } }, tt),
@@ -541,5 +569,30 @@ no_such_action = wrong other_actions 0 the.Actions 2 refl (lit< tt)
     (none_before other_actions)
 
 pub final_behind_all : FinalBehindAll
-final_behind_all = wrong (changed (pos 5) keys asks targs lists zeros) 26 the.EntryStates 0 refl (lit< tt)
+final_behind_all = wrong (changed (head_one (pos 5)) keys asks targs lists zeros) 27 the.EntryStates 0 is_one refl (lit< tt)
     (λ r. let first_final = (r.says.head refl).first_final.1 in omega (arith, ints, first_final)) tt (sound_names (pos 5))
+
+-- ---- versions and uses
+
+pub no_such_version : NoSuchVersion
+no_such_version = inl (record { version = λ v. (let high = v.1 in omega (arith, ints, high)); told = refl })
+
+abbrev old : Head
+old = record { version = pos 1; uses = pos 0 ∷ pos 1 ∷ pos 0 ∷ []; first_final = pos 3 }
+
+pub uses_in_version_one : UsesInVersionOne
+uses_in_version_one = wrong (changed old keys asks targs lists zeros) 6 the.CellUses 0 is_one refl (lit< tt)
+    (λ r. let due : 0 < 0 = r.due in omega arith) tt (sound_keys old asks targs lists zeros)
+
+is_two : IsBetween 1 2 (pos 2)
+is_two = (omega (arith, ints), omega (arith, ints))
+
+abbrev new : Head
+new = record { version = pos 2; uses = pos 0 ∷ pos 2 ∷ pos 0 ∷ []; first_final = pos 3 }
+
+pub no_such_cell : NoSuchCell
+unfolding sum_before
+no_such_cell = wrong (changed new keys asks targs lists zeros) 6 the.CellUses 1 is_two refl (lit< tt)
+    (λ r. let known = r.says.known (λ e. apart 2 1 (omega arith) e) in omega (arith, ints, known))
+    (record { there = lit< tt; due = lit< tt; says = record { closing = λ e. apart 2 0 (omega arith) e; positive = omega (arith, ints); known = λ n. omega (arith, ints) } }, tt)
+    (sound_keys new asks targs lists zeros)

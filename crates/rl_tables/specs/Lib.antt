@@ -4,3 +4,4 @@ pub mod Moves
 pub mod Rows
 pub mod Small
 pub mod Steps
+pub mod TargetParts

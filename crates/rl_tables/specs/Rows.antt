@@ -8,6 +8,7 @@ use Rattle.rl_arrays.specs.Valid.{Valid, IsBad}
 -- main := 'ab' $x; : state 0 is Error, 1 the start, 3 is final; the list of x stands at place 1
 abbrev pub one : Arrays
 one = record {
+  version = pos 1;
   name = codes "one";
   start = pos 1;
   first_final = pos 3;
@@ -18,6 +19,7 @@ one = record {
   single_lengths = pos 0 ∷ pos 1 ∷ pos 1 ∷ pos 0 ∷ [];
   range_lengths = pos 0 ∷ pos 0 ∷ pos 0 ∷ pos 0 ∷ [];
   cell_offsets = pos 0 ∷ pos 0 ∷ pos 1 ∷ pos 2 ∷ [];
+  cell_uses = [];
   cell_asks = pos 0 ∷ pos 0 ∷ pos 0 ∷ [];
   cell_entries = pos 0 ∷ pos 1 ∷ pos 0 ∷ [];
   trans_targs = pos 2 ∷ pos 3 ∷ pos 0 ∷ [];
@@ -47,6 +49,22 @@ OneIsValid = Valid one
 -- the first element that is not right stands in this array, at this index
 abbrev IsWrongAt : Arrays → ArrayName → ℕ → Type 0
 IsWrongAt a array i = IsBad a (record { array = array; index = i })
+
+-- the same machine, where keys share cells
+abbrev pub two : Arrays
+two = record one { version = pos 2; cell_uses = pos 0 ∷ pos 1 ∷ pos 0 ∷ [] }
+
+-- there is no version 3; whatever else is wrong, this is told first
+abbrev pub NoSuchVersion : Type 0
+NoSuchVersion = IsWrongAt (record one { version = pos 3; actions = [] }) the.EntryStates 0
+
+-- in version 1 there are no uses
+abbrev pub UsesInVersionOne : Type 0
+UsesInVersionOne = IsWrongAt (record two { version = pos 1 }) the.CellUses 0
+
+-- there is no cell 2
+abbrev pub NoSuchCell : Type 0
+NoSuchCell = IsWrongAt (record two { cell_uses = pos 0 ∷ pos 2 ∷ pos 0 ∷ [] }) the.CellUses 1
 
 -- 200 is no key of `char`
 abbrev pub NoSuchKey : Type 0

@@ -1,13 +1,14 @@
 //! What a run asks of tables.
 ghost use Rattle.std.specs.Prelude.{◌≡◌, ◌<◌, ◌≤◌, ◌^◌, ℕ, pos, length, map, All, IfSome};
+ghost use Rattle.rl_types.specs.Alphabet.{width_of, key_of};
 ghost use Rattle.rl_arrays.specs.Words.{natural, number_at};
 ghost use Rattle.rl_arrays.specs.Lists.{IsList, members};
 ghost use Rattle.rl_arrays.specs.Sizes.{states};
 ghost use Rattle.rl_arrays.specs.Valid.{Valid};
-ghost use Rattle.rl_arrays.specs.TableMachine.{machine, step_of};
+ghost use Rattle.rl_arrays.specs.TableMachine.{letters, machine, step_of};
 ghost use Rattle.rl_tables.specs.Steps.{go_by, IsStep, IsEntryNumber, IsId};
 
-use crate::look_ups::{cell_of, count_at, entry_of, members_at};
+use crate::look_ups::{alphabet_of, cell_of, count_at, entry_of, members_at};
 use crate::statement_of::statement;
 use crate::{Step, Tables};
 use rl_arrays::Arrays;
@@ -149,15 +150,13 @@ impl Tables {
         count_at(self.arrays().entry_states.as_slice(), entry.0 as usize) as u32
     }
 
-    /// The key of a byte.
-    pub fn key_of(&self, byte: u8) -> Key
-        ensures { result ≡ (machine self.now).key_of byte }
+    /// The alphabet, which says how many bytes a character has and which key.
+    pub fn alphabet(&self) -> Alphabet
+        ensures alphabet { result ≡ letters self.now }
+        ensures width { (machine self.now).width ≡ width_of result }
+        ensures keys { (machine self.now).key_of ≡ key_of result }
     {
-        if self.arrays().alphabet == 1 {
-            Alphabet::UnsignedChar.key_of(byte)
-        } else {
-            Alphabet::Char.key_of(byte)
-        }
+        alphabet_of(self.arrays().alphabet).unwrap_or(Alphabet::Char)
     }
 
     /// The conditions that are asked at a key in a state. It takes no memory.

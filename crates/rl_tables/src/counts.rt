@@ -1,19 +1,21 @@
 //! How many statements the actions have.
-ghost use Rattle.std.specs.Prelude.{◌≡◌, ◌<◌, ◌≤◌, ◌+◌, ◌↔◌, ℕ, ◌==◌, IsTrue, Some, None, pos, length, slice_get, take, drop, map, if◌then◌else◌};
+ghost use Rattle.std.specs.Prelude.{◌≡◌, ◌<◌, ◌≤◌, ◌+◌, ◌^◌, ◌↔◌, ℕ, ◌==◌, IsTrue, Some, None, false, pos, length, slice_get, take, drop, map, if◌then◌else◌};
 ghost use Rattle.std.specs.List.{list_any};
+ghost use Rattle.std.specs.Option.{option_map_or};
 ghost use Rattle.std.specs.Ordering.{int_eq};
 ghost use Rattle.rl_arrays.specs.Words.{natural, number_at};
 ghost use Rattle.rl_arrays.specs.Lists.{members};
 ghost use Rattle.rl_arrays.specs.Statements.{outer_kinds, up_to_end};
 ghost use Rattle.rl_arrays.specs.Statements as Form;
-ghost use Rattle.rl_arrays.specs.Sizes.{entries_end, IsEntryOf};
+ghost use Rattle.rl_arrays.specs.Sizes.{states, cells_end, IsEntryOf};
 ghost use Rattle.rl_arrays.specs.Rules.{HasKind, IsListed, CountSays};
 ghost use Rattle.rl_arrays.specs.Valid.{FirstWrong, SoundBefore};
-ghost use Rattle.rl_tables.specs.Moves.{MayMove};
+ghost use Rattle.rl_tables.specs.Ends.{IsInside};
+ghost use Rattle.rl_tables.specs.Moves.{MayMove, NotInCell, NotInState};
 
-use crate::cells::{entries_of_all, is_inside, state_of_entry};
 use crate::numbers::{count_of, has_kind};
 use crate::statement_of::kind_of;
+use crate::walk::{cell_at, entries_within, use_range};
 use rl_arrays::{ArrayName, Arrays};
 use rl_run::StatementKind;
 
@@ -74,39 +76,58 @@ fn is_in_none(a: &Arrays, numbers: &[i64], k: usize) -> bool
     true
 }
 
-/// Whether an entry is of no state from which a scanner steps.
-fn is_plain(a: &Arrays, end: Option<i128>, e: usize) -> bool
-    requires sound { SoundBefore a.now 8 }
-    requires end_is { end ≡ entries_end a.now }
-    ensures { IsTrue result ↔ ((s : ℕ) → IsEntryOf a.now s e → HasKind a.now s 1 3 → ⊥) }
+/// Whether an action stands in no list of a cell's entries.
+fn is_in_no_entry(a: &Arrays, cell: usize, k: usize) -> bool
+    requires sound { SoundBefore a.now 9 }
+    requires inside { IsInside (cells_end a.now) cell }
+    ensures { IsTrue result ↔ NotInCell a.now k cell }
 {
-    if is_inside(end, e) {
-        !has_kind(a, state_of_entry(a, e), 1, 3)
+    let (from, to) = entries_within(a, cell, a.trans_lists.len());
+    for e in from..to {
+        if is_listed(a, a.trans_lists.as_slice(), e, k) {
+            return false;
+        }
+    }
+    true
+}
+
+/// Whether an action stands in no list of the entries of the cells that a state uses.
+fn is_in_no_step(a: &Arrays, s: usize, k: usize) -> bool
+    requires sound { SoundBefore a.now 9 }
+    requires state { s < states a.now }
+    requires few { s + 1 < 2 ^ 64 }
+    ensures { IsTrue result ↔ NotInState a.now k s }
+{
+    let (from, to) = use_range(a, s);
+    for place in from..to {
+        if !is_in_no_entry(a, cell_at(a, place), k) {
+            return false;
+        }
+    }
+    true
+}
+
+/// Whether a state is not one from which a scanner steps, or an action stands in no list of its steps.
+fn is_quiet(a: &Arrays, s: usize, k: usize) -> bool
+    requires sound { SoundBefore a.now 9 }
+    requires state { s < states a.now }
+    requires few { s + 1 < 2 ^ 64 }
+    ensures { IsTrue result ↔ (HasKind a.now s 1 3 → NotInState a.now k s) }
+{
+    if has_kind(a, s, 1, 3) {
+        is_in_no_step(a, s, k)
     } else {
         true
     }
 }
 
-/// Whether an action is not in the list of an entry, or the entry is of no state from which a scanner steps.
-fn is_free(a: &Arrays, end: Option<i128>, e: usize, k: usize) -> bool
-    requires sound { SoundBefore a.now 8 }
-    requires end_is { end ≡ entries_end a.now }
-    ensures { IsTrue result ↔ ((s : ℕ) → IsEntryOf a.now s e → HasKind a.now s 1 3 → IsListed a.now a.now.trans_lists e k → ⊥) }
-{
-    if !is_listed(a, a.trans_lists.as_slice(), e, k) {
-        return true;
-    }
-    is_plain(a, end, e)
-}
-
 /// Whether an action stands in no list of a step inside a scanner.
-fn is_in_no_scan(a: &Arrays, end: Option<i128>, k: usize) -> bool
-    requires sound { SoundBefore a.now 8 }
-    requires end_is { end ≡ entries_end a.now }
+fn is_in_no_scan(a: &Arrays, k: usize) -> bool
+    requires { SoundBefore a.now 9 }
     ensures { IsTrue result ↔ ((s e : ℕ) → IsEntryOf a.now s e → HasKind a.now s 1 3 → IsListed a.now a.now.trans_lists e k → ⊥) }
 {
-    for e in 0..a.trans_lists.len() {
-        if !is_free(a, end, e, k) {
+    for s in 0..a.key_offsets.len() {
+        if !is_quiet(a, s, k) {
             return false;
         }
     }
@@ -123,14 +144,24 @@ fn ends_list(kind: StatementKind) -> bool
     )
 }
 
-/// The kind of a statement at the outer level.
-fn outer_kind(kind: i64, mark: i64) -> Option<StatementKind>
-    ensures { result ≡ (if int_eq mark (pos 1) then Form.kind_of kind else None) }
+/// Whether a statement with a kind of this number ends its list.
+fn is_end(kind: &i64) -> bool
+    ensures { result ≡ option_map_or Form.ends_list (Form.kind_of kind.now) false }
 {
-    if mark == 1 { kind_of(&kind) } else { None }
+    match kind_of(kind) {
+        Some(kind) => ends_list(kind),
+        None => false,
+    }
 }
 
-/// How many statements there are at the outer level, up to the first transfer or break.
+/// The number of the kind of a statement at the outer level.
+fn outer_kind(kind: i64, mark: i64) -> Option<i64>
+    ensures { result ≡ (if int_eq mark (pos 1) then Some kind else None) }
+{
+    if mark == 1 { Some(kind) } else { None }
+}
+
+/// How many statements there are at the outer level, whatever their kinds, up to the first transfer or break.
 fn outer_statements(kinds: &[i64], marks: &[i64]) -> usize
     ensures { result ≡ length (up_to_end (outer_kinds kinds.now marks.now)) }
 {
@@ -140,7 +171,7 @@ fn outer_statements(kinds: &[i64], marks: &[i64]) -> usize
             continue;
         };
         count += 1;
-        if ends_list(kind) {
+        if is_end(&kind) {
             return count;
         }
     }
@@ -168,9 +199,8 @@ fn has_few(a: &Arrays, k: usize, count: i64) -> bool
 }
 
 /// Whether an action may have statements.
-fn may_move(a: &Arrays, end: Option<i128>, k: usize) -> bool
-    requires sound { SoundBefore a.now 8 }
-    requires end_is { end ≡ entries_end a.now }
+fn may_move(a: &Arrays, k: usize) -> bool
+    requires { SoundBefore a.now 9 }
     ensures { IsTrue result ↔ MayMove a.now k }
 {
     if !is_in_none(a, a.from_lists.as_slice(), k) {
@@ -179,12 +209,11 @@ fn may_move(a: &Arrays, end: Option<i128>, k: usize) -> bool
     if !is_in_none(a, a.to_lists.as_slice(), k) {
         return false;
     }
-    is_in_no_scan(a, end, k)
+    is_in_no_scan(a, k)
 }
 
-fn is_count(a: &Arrays, end: Option<i128>, k: usize, count: i64) -> bool
-    requires sound { SoundBefore a.now 8 }
-    requires end_is { end ≡ entries_end a.now }
+fn is_count(a: &Arrays, k: usize, count: i64) -> bool
+    requires { SoundBefore a.now 9 }
     ensures { IsTrue result ↔ CountSays a.now k count }
 {
     if count < 0 || !has_few(a, k, count) {
@@ -196,19 +225,18 @@ fn is_count(a: &Arrays, end: Option<i128>, k: usize, count: i64) -> bool
     if k == 0 {
         return false;
     }
-    may_move(a, end, k)
+    may_move(a, k)
 }
 
 /// The first wrong number of an action's statements. For an action with statements, all lists that move nothing are
 /// looked at.
 pub(crate) fn in_stmt_counts(a: &Arrays) -> Option<usize>
-    requires { SoundBefore a.now 19 }
+    requires { SoundBefore a.now 20 }
     ensures { FirstWrong a.now ArrayName.StmtCounts result }
 {
     let actions = a.action_names.len();
-    let end = entries_of_all(a);
     for (k, count) in a.stmt_counts.as_slice().iter().enumerate() {
-        if k >= actions || !is_count(a, end, k, *count) {
+        if k >= actions || !is_count(a, k, *count) {
             return Some(k);
         }
     }

@@ -35,7 +35,7 @@ fn is_head(a: &Arrays) -> bool
     if !is_start(a) {
         return false;
     }
-    if !is_between(0, 1, a.alphabet) {
+    if !is_between(0, 5, a.alphabet) {
         return false;
     }
     a.first_final >= 1 && is_at_most(a.first_final, a.key_offsets.len())

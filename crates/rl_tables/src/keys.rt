@@ -10,12 +10,12 @@ ghost use Rattle.rl_tables.specs.KeyParts.{SingleSays, EndSays, StateSays, State
 ghost use Rattle.rl_tables.specs.Small.{IsUpTo};
 
 use crate::cells::{is_closing, is_due};
-use crate::numbers::is_between;
+use crate::look_ups::alphabet_of;
 use crate::sums::{keys_of_state, longer, number_at};
 use rl_arrays::{ArrayName, Arrays};
 
 /// The lesser of two indexes, where there is one.
-fn lesser(one: Option<usize>, other: Option<usize>) -> Option<usize>
+pub(crate) fn lesser(one: Option<usize>, other: Option<usize>) -> Option<usize>
     ensures { result ≡ Parts.lesser one other }
 {
     match one {
@@ -28,7 +28,7 @@ fn lesser(one: Option<usize>, other: Option<usize>) -> Option<usize>
 }
 
 /// A place as an index of an array with so many elements.
-fn clipped(place: i128, has: usize) -> usize
+pub(crate) fn clipped(place: i128, has: usize) -> usize
     ensures value { result ≡ min (natural place) has }
     ensures below { (k : ℕ) → k < result → pos k <ℤ place }
     ensures above { (k : ℕ) → result ≤ k → k < has → place ≤ℤ pos k }
@@ -47,10 +47,9 @@ fn clipped(place: i128, has: usize) -> usize
 fn is_key(a: &Arrays, key: i64) -> bool
     ensures { IsTrue result ↔ IsKey a.now key }
 {
-    match a.alphabet {
-        0 => -128 <= key && key <= 127,
-        1 => is_between(0, 255, key),
-        _ => true,
+    match alphabet_of(a.alphabet) {
+        Some(alphabet) => alphabet.least_key() <= key && key <= alphabet.greatest_key(),
+        None => true,
     }
 }
 

@@ -20,8 +20,10 @@ mod states;
 mod step;
 mod sums;
 mod tables;
+mod targets;
 #[cfg(test)]
 mod tests;
+mod walk;
 
 pub use rl_arrays::{ArrayName, Arrays, BadValue};
 pub use rows::arrays_are_checked;

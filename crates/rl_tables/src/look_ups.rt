@@ -1,14 +1,16 @@
 //! Look-ups in arrays. An element that is missing is read as 0.
-ghost use Rattle.std.specs.Prelude.{◌≡◌, ◌<◌, ◌≤◌, ◌+◌, ◌^◌, ℕ, List, length, take, drop, not, ◌==◌, bit_and, IfSome, if◌then◌else◌, ◌&&◌, int_le};
+ghost use Rattle.std.specs.Prelude.{◌≡◌, ◌<◌, ◌≤◌, ◌+◌, ◌^◌, ℕ, List, length, take, drop, not, ◌==◌, bit_and, IfSome, if◌then◌else◌, ◌&&◌, int_le, max};
 ghost use Rattle.std.specs.List.{filter, position};
 ghost use Rattle.std.specs.Ordering.{int_eq};
 ghost use Rattle.rl_arrays.specs.Words.{natural, number_at};
 ghost use Rattle.rl_arrays.specs.Valid.{Valid};
+ghost use Rattle.rl_arrays.specs.KeyRules as keys;
 ghost use Rattle.rl_arrays.specs.TableMachine as machine;
 
+use crate::cells::shares;
 use crate::numbers::count_of;
 use rl_arrays::Arrays;
-use rl_types::Key;
+use rl_types::{Alphabet, Key};
 
 /// The count at an index; 0 where the element is missing or negative.
 pub(crate) fn count_at(xs: &[i64], i: usize) -> usize
@@ -116,13 +118,24 @@ fn cell_within(a: &Arrays, state: usize, key: Key) -> Option<usize>
     }
 }
 
-/// A place in a list, so far behind another one.
-fn place_in(xs: &[i64], first: usize, behind: usize) -> usize
-    requires { first + behind < length xs.now }
+/// A place so far behind another one, where an array on cells has it.
+fn place_behind(a: &Arrays, first: usize, behind: usize) -> usize
+    requires { first + behind < max (length a.now.cell_asks) (length a.now.cell_uses) }
     ensures { result ≡ first + behind }
 {
-    let _ = xs.len();
+    let _ = a.cell_asks.len().max(a.cell_uses.len());
     first + behind
+}
+
+/// The cell of a use.
+pub(crate) fn cell_used(a: &Arrays, place: usize) -> usize
+    ensures { result ≡ machine.cell_used a.now place }
+{
+    if shares(a) {
+        count_at(a.cell_uses.as_slice(), place)
+    } else {
+        place
+    }
 }
 
 /// The cell of a key.
@@ -134,9 +147,24 @@ pub(crate) fn cell_of(a: &Arrays, state: usize, key: Key) -> Option<usize>
     match cell_within(a, state, key) {
         Some(cell) => {
             let first = count_at(a.cell_offsets.as_slice(), state);
-            Some(place_in(a.cell_asks.as_slice(), first, cell))
+            Some(cell_used(a, place_behind(a, first, cell)))
         }
         None => None,
+    }
+}
+
+/// The alphabet with this number.
+pub(crate) fn alphabet_of(number: i64) -> Option<Alphabet>
+    ensures { result ≡ keys.alphabet_of number }
+{
+    match number {
+        0 => Some(Alphabet::Char),
+        1 => Some(Alphabet::UnsignedChar),
+        2 => Some(Alphabet::Short),
+        3 => Some(Alphabet::UnsignedShort),
+        4 => Some(Alphabet::Int),
+        5 => Some(Alphabet::UnsignedInt),
+        _ => None,
     }
 }
 

@@ -1,11 +1,11 @@
 //! Offsets of the states, and first statements of the actions.
 ghost use Rattle.std.specs.Prelude.{◌≡◌, ◌<◌, ◌↔◌, IsTrue, length};
 ghost use Rattle.rl_arrays.specs.Words.{sum_before, IfAt};
-ghost use Rattle.rl_arrays.specs.Sizes.{keys_of, cells_of};
+ghost use Rattle.rl_arrays.specs.Sizes.{keys_of, uses_of};
 ghost use Rattle.rl_arrays.specs.Rules.{IsSum};
 ghost use Rattle.rl_arrays.specs.Valid.{FirstWrong, Right};
 
-use crate::sums::{cells_of_state, is_sum, keys_of_state, longer};
+use crate::sums::{is_sum, keys_of_state, longer, uses_of_state};
 use rl_arrays::{ArrayName, Arrays};
 
 /// The most elements of the first array of states, of actions and of entries (this profile).
@@ -40,9 +40,9 @@ pub(crate) fn in_key_offsets(a: &Arrays) -> Option<usize>
     }
 }
 
-/// Whether the place of a state's cells is right, where the sum of those before is known.
+/// Whether the place of a state's first use of a cell is right, where the sum of those before is known.
 fn is_cell_offset(a: &Arrays, s: usize, place: Option<i128>) -> bool
-    requires { place ≡ sum_before (cells_of a.now) s }
+    requires { place ≡ sum_before (uses_of a.now) s }
     ensures { IsTrue result ↔ Right a.now ArrayName.CellOffsets s }
 {
     match a.cell_offsets.get(s) {
@@ -51,7 +51,7 @@ fn is_cell_offset(a: &Arrays, s: usize, place: Option<i128>) -> bool
     }
 }
 
-/// The first wrong place of a state's cells.
+/// The first wrong place of a state's first use of a cell.
 pub(crate) fn in_cell_offsets(a: &Arrays) -> Option<usize>
     ensures { FirstWrong a.now ArrayName.CellOffsets result }
 {
@@ -60,7 +60,7 @@ pub(crate) fn in_cell_offsets(a: &Arrays) -> Option<usize>
         if !is_cell_offset(a, s, place) {
             return Some(s);
         }
-        place = longer(place, cells_of_state(a, s), s);
+        place = longer(place, uses_of_state(a, s), s);
     }
     if a.cell_offsets.len() < a.key_offsets.len() {
         Some(a.cell_offsets.len())

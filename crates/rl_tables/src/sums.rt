@@ -1,7 +1,7 @@
 //! Sums of lengths. They are whole numbers: a negative length enters as it is, and a missing one leaves no sum.
 ghost use Rattle.std.specs.Prelude.{◌≡◌, ◌<◌, ◌≤◌, ◌+◌, ◌*◌, ◌^◌, ◌↔◌, IsTrue, Some, pos, length, slice_get, IfSome};
 ghost use Rattle.rl_arrays.specs.Words.{plus, sum_before};
-ghost use Rattle.rl_arrays.specs.Sizes.{keys_of, cells_of, statements_of, keys_end, cells_end, statements_end, one_more};
+ghost use Rattle.rl_arrays.specs.Sizes.{keys_of, uses_of, statements_of, keys_end, uses_end, statements_end, one_more};
 ghost use Rattle.rl_arrays.specs.Rules.{IsSum};
 ghost use Rattle.rl_tables.specs.Small.{IsUpTo};
 
@@ -34,9 +34,9 @@ pub(crate) fn keys_of_state(a: &Arrays, s: usize) -> Option<i128>
     }
 }
 
-/// How many cells a state has.
-pub(crate) fn cells_of_state(a: &Arrays, s: usize) -> Option<i128>
-    ensures value { result ≡ cells_of a.now s }
+/// How many cells the keys of a state use.
+pub(crate) fn uses_of_state(a: &Arrays, s: usize) -> Option<i128>
+    ensures value { result ≡ uses_of a.now s }
     ensures small { IsUpTo (2 ^ 66) result }
 {
     let singles = number_at(a.single_lengths.as_slice(), s);

@@ -49,6 +49,7 @@ fn one(alloc: Global) -> Result<Arrays, AllocError> {
             &[0, 1, 1, 0],
             &[0, 0, 0, 0],
             &[0, 0, 1, 2],
+            &[],
             &[0, 0, 0],
             &[0, 1, 0],
             &[2, 3, 0],
@@ -74,6 +75,7 @@ fn one(alloc: Global) -> Result<Arrays, AllocError> {
     let cond_names = names(alloc, "")?;
     let entry_names = names(alloc, "main")?;
     Ok(Arrays {
+        version: 1,
         name,
         start: 1,
         first_final: 3,
@@ -84,6 +86,7 @@ fn one(alloc: Global) -> Result<Arrays, AllocError> {
         single_lengths: next(alloc, &mut lists),
         range_lengths: next(alloc, &mut lists),
         cell_offsets: next(alloc, &mut lists),
+        cell_uses: next(alloc, &mut lists),
         cell_asks: next(alloc, &mut lists),
         cell_entries: next(alloc, &mut lists),
         trans_targs: next(alloc, &mut lists),

@@ -1,22 +1,21 @@
-use Rattle.std.proofs.Common.{◌≡◌, arith, inl, inr, rules}
-use Rattle.std.proofs.lemmas.Bool.{cases_lt}
-use Rattle.rl_arrays.specs.Sizes.{IsEntryOf}
-use Rattle.rl_arrays.specs.Rules.{IsListed}
-use Rattle.rl_tables.proofs.CountLaws.{none_listed}
+use Rattle.std.proofs.Common.{sym, ◌∙◌, arith, rules, below_more}
 use Rattle.rl_tables.proofs.counts.is_in_no_scan.Goals as goal
 
-pub loop-e-preserved : goal.loop-e-preserved
-loop-e-preserved c = λ s j lt h k l. elim (cases_lt j c.loop-e.e) [
-  | inl less ↦ c.loop-e.invariant s j less h k l
-  | inr ge ↦
-      let same : j ≡ c.loop-e.e = omega arith in
-      let of_state : IsEntryOf c.args.a.now s c.loop-e.e = rw same at h in
-      let listed : IsListed c.args.a.now c.args.a.now.trans_lists c.loop-e.e c.args.k = rw same at l in
-      c.is_free.ensures.0 c.if-not-is_free.false s of_state k listed
-]
+pub loop-s-preserved : goal.loop-s-preserved
+loop-s-preserved c = below_more _ _ c.loop-s.invariant (c.is_quiet.ensures.0 (search rules))
+
+pub returns-then-not-is_quiet : goal.returns-then-not-is_quiet
+returns-then-not-is_quiet c = (
+  λ t. absurd cc,
+  λ all. sym c.if-not-is_quiet.true ∙ c.is_quiet.ensures.1 (λ h. record {
+    each = λ p cell k e. record {
+      each = λ i of_cell listed. all c.loop-s.s i (record { place = p; cell = cell; state = omega arith; of_state = k; of_use = e; of_cell = of_cell }) h listed;
+    };
+  }),
+)
 
 pub returns : goal.returns
 returns c = (
-  λ t s e k h l. elim (cases_lt e c.loop-e.e) [ inl less ↦ c.loop-e.invariant s e less k h l | inr ge ↦ none_listed c.args.a.now c.args.a.now.trans_lists e c.args.k (omega arith) l ],
+  λ t s e k h listed. ((c.loop-s.invariant s (omega (arith, k.state)) h).each k.place k.cell k.of_state k.of_use).each e k.of_cell listed,
   λ all. search rules,
 )

@@ -1,4 +1,4 @@
-use Rattle.rl_tables.proofs.SmallArrays.{one_is_valid, no_such_key, no_such_condition, no_such_state, no_list_begins, too_few_lists, no_such_action, final_behind_all}
+use Rattle.rl_tables.proofs.SmallArrays.{one_is_valid, no_such_key, no_such_condition, no_such_state, no_list_begins, too_few_lists, no_such_action, final_behind_all, no_such_version, uses_in_version_one, no_such_cell}
 use Rattle.rl_tables.proofs.rows.arrays_are_checked.Goals as goal
 
 pub returns-clause-valid : goal.returns-clause-valid
@@ -24,3 +24,12 @@ returns-clause-action c = no_such_action
 
 pub returns-clause-first_final : goal.returns-clause-first_final
 returns-clause-first_final c = final_behind_all
+
+pub returns-clause-version : goal.returns-clause-version
+returns-clause-version c = no_such_version
+
+pub returns-clause-uses : goal.returns-clause-uses
+returns-clause-uses c = uses_in_version_one
+
+pub returns-clause-cell : goal.returns-clause-cell
+returns-clause-cell c = no_such_cell
