@@ -7,9 +7,9 @@ ghost use Rattle.rl_arrays.specs.Section.{entry_line};
 ghost use Rattle.rl_cread.specs.Contents.{IsPrintedNumber};
 ghost use Rattle.rl_cread.specs.Elements.{entry_front, entry_text};
 
-use crate::names::is_name;
 use crate::numbers::number;
 use crate::texts::{behind, between};
+use rl_arrays::is_name;
 use rl_types::Name;
 use std::alloc::{AllocError, Global};
 

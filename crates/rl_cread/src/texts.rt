@@ -6,7 +6,7 @@ ghost use Rattle.rl_cread.specs.Sections as section;
 ghost use Rattle.rl_cread.specs.Sections.{IsFirst, Marks};
 ghost use Rattle.rl_cread.specs.Found.{front_text, IsFound};
 
-use crate::names::is_name;
+use rl_arrays::is_name;
 use std::alloc::{AllocError, Global};
 
 /// What stands between the bytes that are this one.

@@ -4,7 +4,6 @@
 mod differ;
 mod expressions;
 mod form;
-mod names;
 mod parts;
 mod scope;
 mod sizes;

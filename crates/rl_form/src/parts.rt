@@ -5,9 +5,9 @@ ghost use Rattle.rl_model.specs.Specification.{root_of};
 ghost use Rattle.rl_form.specs.Parts.{HasFile, IsTree, IsRoot, IsEntry, IsAction, IsWrite, IsCondition, AreFew, AreSound, scope_of};
 
 use crate::expressions::{is_number, is_sound};
-use crate::names::{is_action_name, is_name};
 use crate::scope::Scope;
 use crate::sizes::{has_nodes, is_within};
+use rl_arrays::{is_action_name, is_name};
 use rl_automata::Tree;
 use rl_model::{ActionDef, Entry, Root, Spec, Write};
 use rl_types::{ActionId, Place};

@@ -4,9 +4,9 @@ ghost use Rattle.rl_arrays.specs.Words.{natural, IfAt};
 ghost use Rattle.rl_arrays.specs.Rules.{start_entry, HeadRight, EntrySays};
 ghost use Rattle.rl_arrays.specs.Valid.{FirstWrong, Right};
 
-use crate::names::{is_name, place_of_main};
+use crate::names::place_of_main;
 use crate::numbers::{count_of, is_at_most, is_between, is_state, may_have_kind};
-use rl_arrays::{ArrayName, Arrays};
+use rl_arrays::{ArrayName, Arrays, is_name};
 
 /// Whether the start is the state of the start entry.
 fn is_start(a: &Arrays) -> bool

@@ -1,6 +1,6 @@
-// Names of machines, entries and actions.
-ghost use Rattle.std.specs.Prelude.{◌≡◌, ◌||◌, length};
-ghost use Rattle.std.specs.List.{list_all, list_any};
+// Which bytes are names.
+ghost use Rattle.std.specs.Prelude.{◌≡◌, ◌==◌, ◌&&◌, ◌||◌, length, codes, map};
+ghost use Rattle.std.specs.List.{list_all, list_any, slice_split};
 ghost use Rattle.std.specs.Str.{bytes_eq};
 ghost use Rattle.rl_arrays.specs.Names as form;
 
@@ -59,8 +59,9 @@ fn is_reserved(bytes: &[u8]) -> bool
         || is_text(bytes, "postpop")
 }
 
-// Whether the bytes are a name.
-pub(crate) fn is_name(bytes: &[u8]) -> bool
+/// Whether the bytes are a name: a letter or `_`, then letters, digits and `_`, and no reserved word (the guide's
+/// section 2.2; which words are reserved is this profile).
+pub fn is_name(bytes: &[u8]) -> bool
     ensures { result ≡ form.is_name bytes.now }
 {
     is_word(bytes) && !is_reserved(bytes)
@@ -117,8 +118,9 @@ fn is_place(bytes: &[u8]) -> bool
     }
 }
 
-// Whether the bytes are the name of an action, or of a condition.
-pub(crate) fn is_action_name(bytes: &[u8]) -> bool
+/// Whether the bytes are the name of an action or of a condition: a name, or `@` and two or three numbers, the place of
+/// one that has no name (this profile).
+pub fn is_action_name(bytes: &[u8]) -> bool
     ensures { result ≡ form.is_action_name bytes.now }
 {
     is_name(bytes) || is_place(bytes)

@@ -1,9 +1,0 @@
-use Rattle.std.proofs.Common.{rules}
-use Rattle.std.specs.Prelude.{◌==◌}
-use Rattle.std.proofs.lemmas.Iterator.Search.{all_from_yields_List}
-use Rattle.std.proofs.lemmas.Iterator.Splits.{YieldsList-from_slice_split}
-use Rattle.rl_arrays.specs.Names.{is_number}
-use Rattle.rl_form.proofs.names.are_parts_numbers.Goals as goal
-
-pub returns : goal.returns
-returns c = all_from_yields_List is_number _ _ _ c.all.ensures.ran (YieldsList-from_slice_split _ (λ b. b == 58) c.args.bytes.now c.split.ensures.rest c.split.ensures.done c.split.ensures.closure (λ x b q k. search rules)) (λ x b q k. search rules)
