@@ -15,8 +15,9 @@ use Rattle.rl_automata.proofs.DeadRow.{apart_is_dead}
 use Rattle.rl_automata.proofs.MarksLaws.{auto_order}
 use Rattle.rl_automata.proofs.MarksLaws.{scan_order}
 use Rattle.rl_run.specs.declared.sessions.Settings.{Settings}
+use Rattle.rl_types.specs.Alphabet.{characters}
 use Rattle.rl_run.specs.Fine.{weight, tail_weight}
-use Rattle.rl_run.specs.Run.{turns, at_letter, after, ending, at_kept, last_list, last_delivery}
+use Rattle.rl_run.specs.Run.{turns, at_letter, after, at_end, ending, at_kept, last_list, last_delivery}
 use Rattle.rl_run.specs.Turn.{if_goes, deliver, marked, stepped, failed, missed, chosen, if_heard, sought, finished, body, turn}
 use Rattle.rl_run.specs.Chain.{run_on}
 use Rattle.rl_replay.specs.declared.script.Line.{Line}
@@ -50,7 +51,7 @@ replays_agree source k l h g settings script = each (script_of (names_of source)
     each (Err fault) = refl
 
 nothing_lives : replay both (nothing_ends, tt) (with_stack 64) (on (codes "a")) ≡ codes "s stop error 0\ns end error 0\n"
-unfolding statements_from statements_of digits every_truths run_on weight tail_weight turns at_letter after ending at_kept last_list last_delivery if_goes deliver marked stepped failed missed chosen if_heard sought finished body turn
+unfolding characters statements_from statements_of digits every_truths run_on weight tail_weight turns at_letter after at_end ending at_kept last_list last_delivery if_goes deliver marked stepped failed missed chosen if_heard sought finished body turn
 nothing_lives = refl
 
 pub dead_paths_go : DeadPathsGo
@@ -207,37 +208,37 @@ module _ (tests : TestsOf rows.letters) (honest : AreTestsHonest rows.letters te
 -- ---- the rows
 
 pub second_operand_acts : SecondOperandActs
-unfolding statements_from statements_of digits every_truths run_on weight tail_weight turns at_letter after ending at_kept last_list last_delivery if_goes deliver marked stepped failed missed chosen if_heard sought finished body turn
+unfolding characters statements_from statements_of digits every_truths run_on weight tail_weight turns at_letter after at_end ending at_kept last_list last_delivery if_goes deliver marked stepped failed missed chosen if_heard sought finished body turn
 second_operand_acts = λ tests honest. by_difference tests honest (with_stack 64) (on (codes "ac")) (codes "s do Z 0\ns end final 2\n") refl
 
 pub second_operand_is_out : SecondOperandIsOut
-unfolding statements_from statements_of digits every_truths run_on weight tail_weight turns at_letter after ending at_kept last_list last_delivery if_goes deliver marked stepped failed missed chosen if_heard sought finished body turn
+unfolding characters statements_from statements_of digits every_truths run_on weight tail_weight turns at_letter after at_end ending at_kept last_list last_delivery if_goes deliver marked stepped failed missed chosen if_heard sought finished body turn
 second_operand_is_out = λ tests honest. by_difference tests honest (with_stack 64) (on (codes "ab")) (codes "s do Z 0\ns stop error 1\ns end error 1\n") refl
 
 pub returns_to_caller : ReturnsToCaller
-unfolding statements_from statements_of digits every_truths run_on weight tail_weight turns at_letter after ending at_kept last_list last_delivery if_goes deliver marked stepped failed missed chosen if_heard sought finished body turn
+unfolding characters statements_from statements_of digits every_truths run_on weight tail_weight turns at_letter after at_end ending at_kept last_list last_delivery if_goes deliver marked stepped failed missed chosen if_heard sought finished body turn
 returns_to_caller = λ tests honest. by_other tests honest (with_stack 64) (codes "open s\npiece s \"n12\"\npiece s \"x\"\nend s\n") (codes "s do enter 0 call num\ns do done 3 hold ret\ns end final 4\n") refl
 
 pub returns_at_end : ReturnsAtEnd
-unfolding statements_from statements_of digits every_truths run_on weight tail_weight turns at_letter after ending at_kept last_list last_delivery if_goes deliver marked stepped failed missed chosen if_heard sought finished body turn
+unfolding characters statements_from statements_of digits every_truths run_on weight tail_weight turns at_letter after at_end ending at_kept last_list last_delivery if_goes deliver marked stepped failed missed chosen if_heard sought finished body turn
 returns_at_end = λ tests honest. by_other tests honest (with_stack 64) (on (codes "n12")) (codes "s do enter 0 call num\ns eof done 3 hold ret\ns end final 3\n") refl
 
 pub backs_up : BacksUp
-unfolding statements_from statements_of digits every_truths run_on weight tail_weight turns at_letter after ending at_kept last_list last_delivery if_goes deliver marked stepped failed missed chosen if_heard sought finished body turn
+unfolding characters statements_from statements_of digits every_truths run_on weight tail_weight turns at_letter after at_end ending at_kept last_list last_delivery if_goes deliver marked stepped failed missed chosen if_heard sought finished body turn
 backs_up = λ tests honest. by_short tests honest (with_stack 64) (on (codes "aaac")) (codes "s token A 2 0 1\ns token A 3 1 2\ns token A 3 2 3\ns stop error 3\ns end error 3\n") refl
 
 pub pieces_add_up : PiecesAddUp
-unfolding statements_from statements_of digits every_truths run_on weight tail_weight turns at_letter after ending at_kept last_list last_delivery if_goes deliver marked stepped failed missed chosen if_heard sought finished body turn
+unfolding characters statements_from statements_of digits every_truths run_on weight tail_weight turns at_letter after at_end ending at_kept last_list last_delivery if_goes deliver marked stepped failed missed chosen if_heard sought finished body turn
 pieces_add_up = λ tests honest. by_short tests honest (with_stack 64) (codes "open s\npiece s \"a\"\npiece s \"a\"\npiece s \"a\"\npiece s \"c\"\nend s\n") (codes "s token A 2 0 1\ns token A 3 1 2\ns token A 3 2 3\ns stop error 3\ns end error 3\n") refl
 
 pub sessions_take_turns : SessionsTakeTurns
-unfolding statements_from statements_of digits every_truths run_on weight tail_weight turns at_letter after ending at_kept last_list last_delivery if_goes deliver marked stepped failed missed chosen if_heard sought finished body turn
+unfolding characters statements_from statements_of digits every_truths run_on weight tail_weight turns at_letter after at_end ending at_kept last_list last_delivery if_goes deliver marked stepped failed missed chosen if_heard sought finished body turn
 sessions_take_turns = λ tests honest. by_short tests honest (with_stack 64) (codes "open s\nopen t\npiece s \"a\"\npiece t \"aaa\"\npiece s \"aac\"\npiece t \"c\"\nend t\nend s\n") (codes "t token A 2 0 1\ns token A 2 0 1\ns token A 3 1 2\ns token A 3 2 3\ns stop error 3\nt token A 3 1 2\nt token A 3 2 3\nt stop error 3\nt end error 3\ns end error 3\n") refl
 
 pub keyword_then_word : KeywordThenWord
-unfolding statements_from statements_of digits every_truths run_on weight tail_weight turns at_letter after ending at_kept last_list last_delivery if_goes deliver marked stepped failed missed chosen if_heard sought finished body turn
+unfolding characters statements_from statements_of digits every_truths run_on weight tail_weight turns at_letter after at_end ending at_kept last_list last_delivery if_goes deliver marked stepped failed missed chosen if_heard sought finished body turn
 keyword_then_word = λ tests honest. by_words tests honest (with_stack 64) (on (codes "if ifx")) (codes "s token kw 2 0 2\ns token id 6 3 6\ns end final 6\n") refl
 
 pub token_is_too_long : TokenIsTooLong
-unfolding statements_from statements_of digits every_truths run_on weight tail_weight turns at_letter after ending at_kept last_list last_delivery if_goes deliver marked stepped failed missed chosen if_heard sought finished body turn
+unfolding characters statements_from statements_of digits every_truths run_on weight tail_weight turns at_letter after at_end ending at_kept last_list last_delivery if_goes deliver marked stepped failed missed chosen if_heard sought finished body turn
 token_is_too_long = λ tests honest. by_letters tests honest (record { stack = 64; look = 8; token_max = 3 }) (on (codes "abcd")) (codes "s stop overlong 3\ns end error 3\n") refl

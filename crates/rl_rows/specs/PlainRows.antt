@@ -1,11 +1,12 @@
 -- Small sources without scanners, intersections and differences, and what replays of them write.
-use Rattle.std.specs.Prelude.{ℕ, ◌+◌, false, pos, List, [], ◌∷◌, ◌++◌, codes}
+use Rattle.std.specs.Prelude.{ℕ, ◌+◌, false, pos, negsuc, List, [], ◌∷◌, ◌++◌, codes}
 use Rattle.rl_automata.specs.declared.tree.Label.{Label}
 use Rattle.rl_automata.specs.declared.tree.Label.TheVariants.{Prior}
 use Rattle.rl_automata.specs.declared.tree.Class.TheVariants as C
 use Rattle.rl_automata.specs.declared.tree.Kind.TheVariants as M
 use Rattle.rl_automata.specs.Nodes as N
 use Rattle.rl_automata.specs.Nodes.{Node}
+use Rattle.rl_types.specs.declared.alphabet.Alphabet.TheVariants.{Short}
 use Rattle.rl_run.specs.declared.statements.Statement.{Statement}
 use Rattle.rl_run.specs.declared.statements.StatementKind.TheVariants.{Exec}
 use Rattle.rl_run.specs.declared.statements.GoalBase.TheVariants.{P}
@@ -150,6 +151,29 @@ EachBegins = Writes (source (alone (codes "A")) (N.Star letters 3)) (on (codes "
 abbrev pub BothGoOn : Type 0
 BothGoOn = Writes (source (pair (codes "A") (codes "B")) (N.Cat (longest (N.Enter (one 97) (first 1)) 2) (N.Finish (one 97) (second 5))))
     (on (codes "aa")) (codes "s do A 0\ns do B 0\ns do A 1\ns do B 1\ns end final 2\n")
+
+-- ---- wide characters
+
+-- 'ab' $x over characters of two bytes
+abbrev pub wide : Specification
+wide = record literal { alphabet = Short }
+
+abbrev pub TwoBytesEach : Type 0
+TwoBytesEach = Writes wide (on (codes "a\\x00b\\x00")) (codes "s do x 0\ns do x 1\ns end final 2\n")
+
+-- a piece may end within a character
+abbrev pub CutWithin : Type 0
+CutWithin = Writes wide
+    (codes "open s\npiece s \"a\"\npiece s \"\\x00b\"\npiece s \"\\x00\"\nend s\n") (codes "s do x 0\ns do x 1\ns end final 2\n")
+
+-- and the input may not
+abbrev pub HalfAtEnd : Type 0
+HalfAtEnd = Writes wide (on (codes "a\\x00b")) (codes "s do x 0\ns stop half-key 1\ns end error 1\n")
+
+-- -1 $x
+abbrev pub UpperHalfBelowZero : Type 0
+UpperHalfBelowZero = Writes (record (source (alone (codes "x")) (N.All (between (negsuc 0) (negsuc 0)) (first 1))) { alphabet = Short })
+    (on (codes "\\xff\\xff\\xff\\x00")) (codes "s do x 0\ns stop error 1\ns end error 1\n")
 
 -- ---- conditions
 

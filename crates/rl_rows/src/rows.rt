@@ -1,5 +1,5 @@
 // What replays of small sources write.
-ghost use Rattle.rl_rows.specs.PlainRows.{EmptyWordIsFinal, CharacterIsDue, NoWordIsFinal, EachCharacter, StopStays, LeavesBeforeEntering, EachWordOnce, EmptyWordIsLeft, NewRoundLast, EntersFirst, GuardEnds, GuardIsLast, FromAndTo, ErrorActionRuns, ErrorActionAtEnd, HigherStays, EqualAreJoined, LongestGoesOn, EachBegins, BothGoOn, SaidYes, NotSaid, NoRoomToPush, NothingToPop, StrayPick, TooFarBack, BehindEnd};
+ghost use Rattle.rl_rows.specs.PlainRows.{EmptyWordIsFinal, CharacterIsDue, NoWordIsFinal, EachCharacter, StopStays, LeavesBeforeEntering, EachWordOnce, EmptyWordIsLeft, NewRoundLast, EntersFirst, GuardEnds, GuardIsLast, FromAndTo, ErrorActionRuns, ErrorActionAtEnd, HigherStays, EqualAreJoined, LongestGoesOn, EachBegins, BothGoOn, TwoBytesEach, CutWithin, HalfAtEnd, UpperHalfBelowZero, SaidYes, NotSaid, NoRoomToPush, NothingToPop, StrayPick, TooFarBack, BehindEnd};
 ghost use Rattle.rl_rows.specs.TestedRows.{DeadPathsGo, SecondOperandActs, SecondOperandIsOut, ReturnsToCaller, ReturnsAtEnd, BacksUp, PiecesAddUp, SessionsTakeTurns, KeywordThenWord, TokenIsTooLong};
 
 /// Sources without actions: which ends are final.
@@ -36,6 +36,15 @@ pub fn priorities_are_written()
     ensures longest_goes_on { LongestGoesOn }
     ensures each_begins { EachBegins }
     ensures both_go_on { BothGoOn }
+{}
+
+/// Characters of two bytes: positions count characters, a piece may cut one, an input that ends within one stops, and
+/// the upper half of a signed alphabet is below 0.
+pub fn wide_characters_are_written()
+    ensures two_bytes_each { TwoBytesEach }
+    ensures cut_within { CutWithin }
+    ensures half_at_end { HalfAtEnd }
+    ensures upper_half_below_zero { UpperHalfBelowZero }
 {}
 
 /// Conditions: what the script says of one, and No where it says nothing.
