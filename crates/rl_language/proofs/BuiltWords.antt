@@ -68,6 +68,7 @@ built_match spec entries machines tests (suc i) from up plain w =
 pub built_tell : (spec : Specification) (tests : TestsOf spec) (entries : List EntryFsm) → AreTestsHonest spec tests → IsTwinOf spec tests entries → HasNoStatements spec → (e : ℕ) → 1 ≤ e → e ≤ length spec.entries
     → IsWithoutPriorities (root_at (roots_of spec) e) → VerdictsTellWords (root_machine entries (context_of spec)) e (root_at (roots_of spec) e)
 built_tell spec tests entries honest twin quiet e from up plain =
-    same_tell (tree_machine spec tests) (root_machine entries (context_of spec)) (λ a. a)
-    (same_runs (tree_machine spec tests) (root_machine entries (context_of spec)) (λ a. a) (StandsAt (ConfAt spec) (λ e. ℕ) (part_at entries) twin.0) twin.1)
-    twin.1.key_of e (root_at (roots_of spec) e) (tree_tells spec tests honest quiet e from up plain)
+    let R = StandsAt (ConfAt spec) (λ e. ℕ) (part_at entries) twin.0 in
+    same_tell (tree_machine spec tests) (root_machine entries (context_of spec)) (λ a. a) R
+    (same_runs (tree_machine spec tests) (root_machine entries (context_of spec)) (λ a. a) R twin.1)
+    twin.1.width twin.1.key_of e (root_at (roots_of spec) e) (tree_tells spec tests honest quiet e from up plain)

@@ -219,13 +219,14 @@ module _ {C S : Type 0} (A : Auto C) (m : Machine S) (place : C → S) (shows : 
         sought_turned
         (λ x h. subst (EndsBy Fits (Turned c l p)) (sym (if_goes_held Sort x (λ t. sought m settings spot key t) h)) (held h))
 
-  pub turn_turns : (c : C) (byte p furthest backs : ℕ) → EndsBy Fits (Turned c (record { key = (m.key_of byte).0; truths = truths p }) p) (turn m settings (standing (place c) p furthest backs) byte)
+  pub turn_turns : (c : C) (character p furthest backs : ℕ) →
+      EndsBy Fits (Turned c (record { key = (m.key_of character).0; truths = truths p }) p) (turn m settings (standing (place c) p furthest backs) character)
   unfolding turn
-  turn_turns c byte p furthest backs =
+  turn_turns c character p furthest backs =
       let s = standing (place c) p furthest backs in
-      let l : Letter = record { key = (m.key_of byte).0; truths = truths p } in
-      let spot = spot_of m settings s byte in
-      subst (λ u. EndsBy Fits (Turned c l p) (bind (body m settings spot (m.key_of byte) u) (finished m settings spot)))
+      let l : Letter = record { key = (m.key_of character).0; truths = truths p } in
+      let spot = spot_of m settings s character in
+      subst (λ u. EndsBy Fits (Turned c l p) (bind (body m settings spot (m.key_of character) u) (finished m settings spot)))
       (sym (ap (λ k. cond (nat_eq k 1) (record s { ts = Some p; te = None; kept = None }) s) (shows.kind c)))
-      (ends_bind Fits (Turned c l p) (Turned c l p) (body m settings spot (m.key_of byte) s) (finished m settings spot)
-      (turned_body c (m.key_of byte) p furthest backs spot refl) (λ x t. finished_turned c l p spot x t))
+      (ends_bind Fits (Turned c l p) (Turned c l p) (body m settings spot (m.key_of character) s) (finished m settings spot)
+      (turned_body c (m.key_of character) p furthest backs spot refl) (λ x t. finished_turned c l p spot x t))

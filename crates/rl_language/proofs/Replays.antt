@@ -1,16 +1,15 @@
 -- A replay of a script that opens a session, feeds it one piece and ends it: the host answers by itself, and nothing that
 -- it answers stops the session.
-use Rattle.std.proofs.Common.{◌≡◌, ◌≢◌, ℕ, zero, suc, ◌+◌, ◌-◌, ◌^◌, ◌<◌, ◌≤◌, cond, List, [], ◌∷◌, ◌++◌, inl, ◌↔◌, refl, sym, ◌∙◌, ap, subst, Option, Some, None, length, nat_eq, arith}
+use Rattle.std.proofs.Common.{◌≡◌, ◌≢◌, ℕ, zero, suc, ◌+◌, ◌-◌, ◌^◌, ◌<◌, ◌≤◌, cond, List, [], ◌∷◌, ◌++◌, inl, refl, sym, ◌∙◌, ap, subst, Option, Some, None, length, nat_eq, arith}
 use Rattle.std.specs.List.{last_or}
 use Rattle.std.proofs.lemmas.Nat.Bits.{bit_at-zero}
-use Rattle.rl_types.specs.Alphabet.{key_of}
+use Rattle.rl_types.specs.Alphabet.{width_of, key_of, has_rest}
 use Rattle.rl_automata.specs.Auto.{holds}
 use Rattle.rl_run.specs.declared.calls.Answer.{Answer}
 use Rattle.rl_run.specs.declared.calls.Answer.TheVariants.{Yes, No}
 use Rattle.rl_run.specs.declared.calls.Call.{Call}
 use Rattle.rl_run.specs.declared.calls.CallKind.{CallKind}
 use Rattle.rl_run.specs.declared.calls.CallKind.TheVariants.{From, Ask, Do, Error, To, Token, Eof}
-use Rattle.rl_run.specs.declared.calls.Verdict.TheVariants.{Final}
 use Rattle.rl_run.specs.declared.sessions.Settings.{Settings}
 use Rattle.rl_run.specs.declared.sessions.Spot.{Spot}
 use Rattle.rl_run.specs.Machine.{Machine, Session}
@@ -24,11 +23,11 @@ use Rattle.rl_replay.specs.Lines.{session_run, calls_lines, stop_lines}
 use Rattle.rl_replay.specs.Sessions.{Names, entry_or_start}
 use Rattle.rl_replay.specs.Written.{written, whole_input}
 use Rattle.rl_replay.proofs.Whole.{one_run}
-use Rattle.rl_language.specs.Verdicts.{IsWithoutPriorities, IsWordOfEntry, HasNoStatements, letters_from, whole}
+use Rattle.rl_language.specs.Verdicts.{IsWithoutPriorities, IsWordOfEntry, HasNoStatements, letters_of, IsTold, whole}
 use Rattle.rl_language.specs.Replays.{EndsWithVerdict}
 use Rattle.rl_language.proofs.QuietTurns.{AreQuiet, Unmoved}
 use Rattle.rl_language.proofs.QuietRuns.{hosted_tells}
-use Rattle.rl_language.proofs.TreeWords.{plain_part, root_matches, root_asks, tests_honest, place, entry_shows, entry_starts, is_within, iff_then}
+use Rattle.rl_language.proofs.TreeWords.{plain_part, root_matches, root_asks, tests_honest, place, entry_shows, entry_starts, is_within, told_then}
 
 -- what a host answers by itself where no action has a statement: No to a condition, and no picks
 abbrev plain_answer : Call → Answer
@@ -82,21 +81,22 @@ module _ {S : Type 0} (m : Machine S) (settings : Settings) where
 pub replay_tells : (spec : Specification) (tests : TestsOf spec) → AreTestsHonest spec tests → HasNoStatements spec → (names : Names) (settings : Settings) (s : List ℕ) (entry : Option (List ℕ)) (bytes : List ℕ) → length bytes < 2 ^ 63
     → 1 ≤ entry_or_start names entry → entry_or_start names entry ≤ length spec.entries → IsWithoutPriorities (root_at (roots_of spec) (entry_or_start names entry))
     → EndsWithVerdict (written names (tree_machine spec tests) settings (whole_input s entry bytes)) s
-    (λ verdict. (verdict ≡ Final) ↔ IsWordOfEntry (root_at (roots_of spec) (entry_or_start names entry)) (letters_from (key_of spec.alphabet) (λ p. 0) 0 bytes))
+    (λ verdict. IsTold verdict (has_rest (width_of spec.alphabet) bytes)
+    (IsWordOfEntry (root_at (roots_of spec) (entry_or_start names entry)) (letters_of (width_of spec.alphabet) (key_of spec.alphabet) (λ p. 0) bytes)))
 replay_tells spec tests honest quiet names settings s entry bytes size from up plain =
     let e = entry_or_start names entry in
     let x = root_at (roots_of spec) e in
     let k = tests_at (roots_of spec) tests e in
     let m = tree_machine spec tests in
-    let r = session_run m settings (host m []) e (whole bytes) in (
+    let r = session_run m settings (host m []) e (whole m.width bytes) in (
       calls_lines m s (host m []) [] r.0 ++ stop_lines s r.1,
       verdict_of m r.1,
       r.1.session.next,
       one_run names m settings s entry bytes,
-      iff_then
+      told_then (verdict_of m r.1) (has_rest (width_of spec.alphabet) bytes)
           (hosted_tells (root_part x k).auto m (place (ConfAt spec) (part_of spec tests) (length spec.entries) (context_of spec) e)
           (entry_shows (ConfAt spec) (part_of spec tests) (length spec.entries) (context_of spec) e (plain_part x k plain) (root_asks x k plain))
           settings (λ p. 0) (λ p. omega arith) IsPlainAnswer (plain_answers m settings) (host m []) (host_plain m settings quiet) bytes (m.entry e)
           (entry_starts (ConfAt spec) (part_of spec tests) (length spec.entries) (context_of spec) e (is_within (length spec.entries) e from up)) size)
-          (root_matches x k (tests_honest (roots_of spec) tests honest e) plain (letters_from (key_of spec.alphabet) (λ p. 0) 0 bytes)),
+          (root_matches x k (tests_honest (roots_of spec) tests honest e) plain (letters_of (width_of spec.alphabet) (key_of spec.alphabet) (λ p. 0) bytes)),
     )

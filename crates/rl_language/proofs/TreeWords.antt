@@ -1,8 +1,8 @@
 -- The tree machine's verdicts tell the words of its entries, and those of its twins do too.
-use Rattle.std.proofs.Common.{◌≡◌, ℕ, ◌+◌, true, false, cond, List, [], ◌∷◌, ◌↔◌, refl, sym, ◌∙◌, ap, subst, Some, None, length, nat_eq, zero, suc, ◌≤◌, arith}
+use Rattle.std.proofs.Common.{◌≡◌, ℕ, ◌+◌, ◌<◌, ◌^◌, Bool, true, false, cond, List, [], ◌∷◌, ◌↔◌, refl, sym, ◌∙◌, ap, subst, Some, None, length, nat_eq, zero, suc, ◌≤◌, arith}
 use Rattle.std.specs.List.{AllZip}
 use Rattle.rl_types.specs.declared.numbers.Letter.{Letter}
-use Rattle.rl_types.specs.Alphabet.{key_of}
+use Rattle.rl_types.specs.Alphabet.{width_of, key_of, has_rest, characters}
 use Rattle.rl_automata.specs.Auto.{is_start, holds}
 use Rattle.rl_automata.specs.Laws.{StepsByAsked}
 use Rattle.rl_automata.proofs.AskedLaws.{steps_by_asked}
@@ -10,7 +10,8 @@ use Rattle.rl_run.specs.declared.calls.Answer.{Answer}
 use Rattle.rl_run.specs.declared.calls.Answer.TheVariants.{Yes, No}
 use Rattle.rl_run.specs.declared.calls.Call.{Call}
 use Rattle.std.proofs.lemmas.Bool.Decides.{nat_tests}
-use Rattle.rl_run.specs.declared.calls.Verdict.TheVariants.{Final}
+use Rattle.rl_run.specs.declared.calls.Verdict.{Verdict}
+use Rattle.rl_run.specs.declared.sessions.Settings.{Settings}
 use Rattle.rl_run.specs.Machine.{Machine, fresh}
 use Rattle.rl_run.specs.Play.{Reached, ended, stands, run}
 use Rattle.rl_run.specs.Run.{Rest}
@@ -21,7 +22,7 @@ use Rattle.rl_run.specs.Verdict.{verdict_of}
 use Rattle.rl_model.specs.Parts.{Part, Context, EntryState, is_entry, kind_in, machine, start_at}
 use Rattle.rl_model.specs.Specification.{Specification, Root, Plain, Scanner, roots_of}
 use Rattle.rl_model.specs.Trees.{Tests, IsHonest, root_part, root_at, AllTests, AreAllHonest, tests_at, ConfAt, TestsOf, AreTestsHonest, part_of, context_of, tree_machine}
-use Rattle.rl_language.specs.Verdicts.{IsWithoutPriorities, IsWordOfEntry, HasNoStatements, letters_from, AreAnsweredBy, IsAnsweredBy, IsStoppedByHost, whole, VerdictsTellWords}
+use Rattle.rl_language.specs.Verdicts.{IsWithoutPriorities, IsWordOfEntry, HasNoStatements, letters_from, letters_of, IsTold, AreAnsweredBy, IsAnsweredBy, IsStoppedByHost, whole, VerdictsTellWords}
 use Rattle.rl_language.proofs.Accepting.{accepts}
 use Rattle.rl_language.proofs.Matching.{matches}
 use Rattle.rl_language.proofs.QuietTurns.{Shows}
@@ -75,13 +76,19 @@ is_within count e a b = grind (arith, nat_tests)
 pub iff_then : {P Q R : Type 0} → (P ↔ Q) → (Q ↔ R) → P ↔ R
 iff_then f g = ((λ p. g.0 (f.0 p)), (λ r. f.1 (g.1 r)))
 
+pub told_then : {P Q : Type 0} (verdict : Verdict) (half : Bool) → IsTold verdict half P → (P ↔ Q) → IsTold verdict half Q
+told_then verdict half told f = record {
+  word = ((λ e. ((told.word.0 e).0, f.0 (told.word.0 e).1)), (λ h. told.word.1 (h.0, f.1 h.1)));
+  rest = told.rest;
+}
+
 pub tree_tells : (spec : Specification) (tests : TestsOf spec) → AreTestsHonest spec tests → HasNoStatements spec → (e : ℕ) → 1 ≤ e → e ≤ length spec.entries
     → IsWithoutPriorities (root_at (roots_of spec) e) → VerdictsTellWords (tree_machine spec tests) e (root_at (roots_of spec) e)
 tree_tells spec tests honest quiet e from up plain settings bytes truths answers r size low by reached not_held =
     let x = root_at (roots_of spec) e in
     let k = tests_at (roots_of spec) tests e in
-    let w = letters_from (key_of spec.alphabet) truths 0 bytes in
-    iff_then
+    let w = letters_of (width_of spec.alphabet) (key_of spec.alphabet) truths bytes in
+    told_then (verdict_of (tree_machine spec tests) r) (has_rest (width_of spec.alphabet) bytes)
     (run_tells (root_part x k).auto (tree_machine spec tests) (place (ConfAt spec) (part_of spec tests) (length spec.entries) (context_of spec) e)
     (entry_shows (ConfAt spec) (part_of spec tests) (length spec.entries) (context_of spec) e (plain_part x k plain) (root_asks x k plain))
     quiet settings truths low bytes ((tree_machine spec tests).entry e)
@@ -90,7 +97,7 @@ tree_tells spec tests honest quiet e from up plain settings bytes truths answers
 
 -- ---- machines that make the same runs
 
-module _ {S T : Type 0} (m : Machine S) (w : Machine T) (rename : ℕ → ℕ) where
+module _ {S T : Type 0} (m : Machine S) (w : Machine T) (rename : ℕ → ℕ) (R : S → T → Type 0) where
   same_answer : (truths : ℕ → ℕ) (c d : Call) (x : Answer) → CallR m w rename c d → IsAnsweredBy truths d x → IsAnsweredBy truths c x
   same_answer truths c d x (e, name, same) g p =
       let h : IsAnsweredBy truths (renamed rename c) x = subst (λ y. IsAnsweredBy truths y x) e g in
@@ -102,23 +109,39 @@ module _ {S T : Type 0} (m : Machine S) (w : Machine T) (rename : ℕ → ℕ) w
   same_answers truths (c ∷ cs) (d ∷ ds) [] z g = tt
   same_answers truths (c ∷ cs) (d ∷ ds) (x ∷ xs) z g = (same_answer truths c d x z.0 g.0, same_answers truths cs ds xs z.1 g.1)
 
-  same_end : (x : Reached (Rest S)) (y : Reached (Rest T)) (r : Rest T) → ReachAlike m w rename x y → y ≡ ended r → (a : Rest S) × (x ≡ ended a) × EndsAlike m w rename a r
-  same_end x y r h e = by x (subst (ReachAlike m w rename x) e h)
+  same_end : (x : Reached (Rest S)) (y : Reached (Rest T)) (r : Rest T) → ReachAlike m w rename R x y → y ≡ ended r → (a : Rest S) × (x ≡ ended a) × EndsAlike m w rename R a r
+  same_end x y r h e = by x (subst (ReachAlike m w rename R x) e h)
     where
-      by : (x : Reached (Rest S)) → ReachAlike m w rename x (ended r) → (a : Rest S) × (x ≡ ended a) × EndsAlike m w rename a r
+      by : (x : Reached (Rest S)) → ReachAlike m w rename R x (ended r) → (a : Rest S) × (x ≡ ended a) × EndsAlike m w rename R a r
       by (ended a) h = (a, refl, h)
       by (stands p) h = absurd h
 
-  same_letters : ((byte : ℕ) → w.key_of byte ≡ m.key_of byte) → (truths : ℕ → ℕ) (at : ℕ) (bytes : List ℕ) → letters_from w.key_of truths at bytes ≡ letters_from m.key_of truths at bytes
+  same_letters : ((character : ℕ) → w.key_of character ≡ m.key_of character) → (truths : ℕ → ℕ) (at : ℕ) (all : List ℕ) →
+      letters_from w.key_of truths at all ≡ letters_from m.key_of truths at all
   same_letters k truths at [] = refl
-  same_letters k truths at (byte ∷ bytes) = λ i. record { key = (k byte i).0; truths = truths at } ∷ same_letters k truths (at + 1) bytes i
+  same_letters k truths at (character ∷ all) = λ i. record { key = (k character i).0; truths = truths at } ∷ same_letters k truths (at + 1) all i
 
-  pub same_tell : MakeSameRuns m w rename → ((byte : ℕ) → w.key_of byte ≡ m.key_of byte) → (e : ℕ) (x : Root) → VerdictsTellWords m e x → VerdictsTellWords w e x
-  same_tell same k e x tell settings bytes truths answers r size low by reached not_held =
-      let alike = same false settings (whole bytes) e answers in
-      let end = same_end (run (run_on false m settings (whole bytes) (fresh (m.entry e))) answers).reached (run (run_on false w settings (whole bytes) (fresh (w.entry e))) answers).reached r alike.1 reached in
-      let told = tell settings bytes truths answers end.0 size low
-      (same_answers truths (run (run_on false m settings (whole bytes) (fresh (m.entry e))) answers).calls (run (run_on false w settings (whole bytes) (fresh (w.entry e))) answers).calls answers alike.0 by)
-      end.1 (λ h. not_held (subst IsStoppedByHost (sym end.2.outcome) h)) in
-      subst (λ word. (verdict_of w r ≡ Final) ↔ IsWordOfEntry x word) (sym (same_letters k truths 0 bytes))
-      (subst (λ v. (v ≡ Final) ↔ IsWordOfEntry x (letters_from m.key_of truths 0 bytes)) (sym end.2.verdict) told)
+  -- what the other's verdicts are said to tell, of characters of this width
+  abbrev TellsAt : ℕ → ℕ → Root → Type 0
+  TellsAt width e x =
+      (settings : Settings) (bytes : List ℕ) (truths : ℕ → ℕ) (answers : List Answer) (r : Rest T) →
+      length bytes < 2 ^ 63 → ((p : ℕ) → truths p < 2 ^ 8) →
+      AreAnsweredBy truths (run (run_on false w settings (whole width bytes) (fresh (w.entry e))) answers).calls answers →
+      (run (run_on false w settings (whole width bytes) (fresh (w.entry e))) answers).reached ≡ ended r → ¬ IsStoppedByHost r.outcome →
+      IsTold (verdict_of w r) (has_rest width bytes) (IsWordOfEntry x (letters_of width w.key_of truths bytes))
+
+  pub same_tell : MakeSameRuns m w rename R → w.width ≡ m.width → ((character : ℕ) → w.key_of character ≡ m.key_of character) →
+      (e : ℕ) (x : Root) → VerdictsTellWords m e x → VerdictsTellWords w e x
+  same_tell same width k e x tell = subst (λ n. TellsAt n e x) (sym width) tells
+    where
+      tells : TellsAt m.width e x
+      tells settings bytes truths answers r size low by reached not_held =
+          let input = whole m.width bytes in
+          let alike = same false settings input e answers in
+          let p = run (run_on false m settings input (fresh (m.entry e))) answers in
+          let q = run (run_on false w settings input (fresh (w.entry e))) answers in
+          let end = same_end p.reached q.reached r alike.1 reached in
+          let told = tell settings bytes truths answers end.0 size low (same_answers truths p.calls q.calls answers alike.0 by)
+          end.1 (λ h. not_held (subst IsStoppedByHost (sym end.2.outcome) h)) in
+          subst (λ word. IsTold (verdict_of w r) (has_rest m.width bytes) (IsWordOfEntry x word)) (sym (same_letters k truths 0 (characters m.width bytes)))
+          (subst (λ v. IsTold v (has_rest m.width bytes) (IsWordOfEntry x (letters_of m.width m.key_of truths bytes))) (sym end.2.verdict) told)

@@ -5,7 +5,7 @@ use Rattle.rl_run.specs.declared.calls.Answer.{Answer}
 use Rattle.rl_run.specs.declared.calls.CallKind.{CallKind}
 use Rattle.rl_run.specs.declared.calls.CallKind.TheVariants.{From, Ask, Do, Error, To, Token, Eof}
 use Rattle.rl_run.specs.declared.calls.Outcome.TheVariants.{Wants, Broke, Stopped}
-use Rattle.rl_run.specs.declared.calls.Stop.TheVariants.{Overlong, PastEnd}
+use Rattle.rl_run.specs.declared.calls.Stop.TheVariants.{Overlong, PastEnd, HalfKey}
 use Rattle.rl_run.specs.declared.sessions.Flow.{Flow}
 use Rattle.rl_run.specs.declared.sessions.Flow.TheVariants.{Goes, Jumps, Breaks, Stops}
 use Rattle.rl_run.specs.declared.sessions.Heard.{Heard}
@@ -15,7 +15,7 @@ use Rattle.rl_run.specs.Machine.{Go, Machine, Session}
 use Rattle.rl_run.specs.Picks.{Came, came, answered}
 use Rattle.rl_run.specs.Play.{Play, done, ask, bind, run}
 use Rattle.rl_run.specs.Turn.{if_goes, calls, conditions, all_conditions, cleared, sent_home, deliver, token_kept, marked, behind, stepped, judged, failed, missed, chosen, if_heard, sought, raised, closed, finished, opened, is_overlong, body, spot_of, turn}
-use Rattle.rl_run.specs.Run.{Input, Rest, rest, letter, end_of, end_spot, after, last_delivery, over, last_list, at_kept, ending, at_letter, turns}
+use Rattle.rl_run.specs.Run.{Input, Rest, rest, letter, end_of, end_spot, after, last_delivery, over, last_list, at_kept, ending, at_end, at_letter, turns}
 use Rattle.rl_run.specs.Chain.{run_on}
 use Rattle.rl_run.specs.Fine.{weight}
 use Rattle.rl_language.specs.Verdicts.{AreAnsweredBy}
@@ -140,15 +140,15 @@ module _ {S : Type 0} (m : Machine S) (asks_none : (q : S) (key : Key) → m.ask
       by Breaks = tt
       by (Stops _) = tt
 
-  turn_never : (s : Session S) (byte : ℕ) → NeverAsks (turn m settings s byte)
+  turn_never : (s : Session S) (character : ℕ) → NeverAsks (turn m settings s character)
   unfolding turn body
-  turn_never s byte =
-      let spot = spot_of m settings s byte in
+  turn_never s character =
+      let spot = spot_of m settings s character in
       let u = opened m s in
-      both_never (body m settings spot (m.key_of byte) u) (finished m settings spot)
-      (cond_never (is_overlong settings u) (done (came (Stops Overlong) u)) (bind (calls m settings spot From (m.from u.state) u) (λ c. if_goes c (λ t. sought m settings spot (m.key_of byte) t))) tt
-      (both_never (calls m settings spot From (m.from u.state) u) (λ c. if_goes c (λ t. sought m settings spot (m.key_of byte) t)) (calls_never spot From from_ask (m.from u.state) u)
-      (λ c. goes_never c (λ t. sought m settings spot (m.key_of byte) t) (sought_never spot (m.key_of byte)))))
+      both_never (body m settings spot (m.key_of character) u) (finished m settings spot)
+      (cond_never (is_overlong settings u) (done (came (Stops Overlong) u)) (bind (calls m settings spot From (m.from u.state) u) (λ c. if_goes c (λ t. sought m settings spot (m.key_of character) t))) tt
+      (both_never (calls m settings spot From (m.from u.state) u) (λ c. if_goes c (λ t. sought m settings spot (m.key_of character) t)) (calls_never spot From from_ask (m.from u.state) u)
+      (λ c. goes_never c (λ t. sought m settings spot (m.key_of character) t) (sought_never spot (m.key_of character)))))
       (finished_never spot)
 
   after_never : (b : Bool) (c : Came S) (k : Session S → Play (Rest S)) → ((t : Session S) → NeverAsks (k t)) → NeverAsks (after b c k)
@@ -178,10 +178,16 @@ module _ {S : Type 0} (m : Machine S) (asks_none : (q : S) (key : Key) → m.ask
           (λ c. after_never b c k h)
       by None = both_never (calls m settings (end_spot settings s at true) Eof (m.eof s.state) s) (λ c. done (over c)) (calls_never (end_spot settings s at true) Eof eof_ask (m.eof s.state) s) (λ c. tt)
 
+  end_never : (b : Bool) (input : Input) (k : Session S → Play (Rest S)) → ((t : Session S) → NeverAsks (k t)) →
+      (s : Session S) → NeverAsks (at_end b m settings input k s)
+  unfolding at_end
+  end_never b input k h s =
+      cond_never input.has_rest (done (rest (Some (Stopped HalfKey)) s)) (ending b m settings (end_of input) s k) tt (ending_never b (end_of input) s k h)
+
   letter_never : (b : Bool) (input : Input) (k : Session S → Play (Rest S)) → ((t : Session S) → NeverAsks (k t)) → (s : Session S) (o : Option ℕ) → NeverAsks (at_letter b m settings input k s o)
   unfolding at_letter
-  letter_never b input k h s (Some byte) = both_never (turn m settings s byte) (λ c. after b c k) (turn_never s byte) (λ c. after_never b c k h)
-  letter_never b input k h s None = cond_never input.is_closed (ending b m settings (end_of input) s k) (done (rest (Some Wants) s)) (ending_never b (end_of input) s k h) tt
+  letter_never b input k h s (Some character) = both_never (turn m settings s character) (λ c. after b c k) (turn_never s character) (λ c. after_never b c k h)
+  letter_never b input k h s None = cond_never input.is_closed (at_end b m settings input k s) (done (rest (Some Wants) s)) (end_never b input k h s) tt
 
   turns_never : (b : Bool) (input : Input) (n : ℕ) (s : Session S) → NeverAsks (turns b m settings input n s)
   unfolding turns

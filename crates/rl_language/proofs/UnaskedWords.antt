@@ -16,7 +16,7 @@ use Rattle.rl_language.proofs.Unasked.{never_answered, run_never}
 pub plainly_tells : {S : Type 0} (m : Machine S) → ((q : S) (key : Key) → m.asked q key ≡ 0) → (e : ℕ) (x : Root) → VerdictsTellWords m e x → VerdictsTellPlainWords m e x
 plainly_tells m none e x tell settings bytes answers r size reached not_held =
     tell settings bytes (λ p. 0) answers r size (λ p. omega arith)
-    (never_answered (λ p. 0) (run_on false m settings (whole bytes) (fresh (m.entry e))) answers (run_never m none settings false (whole bytes) (fresh (m.entry e)))) reached not_held
+    (never_answered (λ p. 0) (run_on false m settings (whole m.width bytes) (fresh (m.entry e))) answers (run_never m none settings false (whole m.width bytes) (fresh (m.entry e)))) reached not_held
 
 pub spec_tells : (spec : Spec) (tests : TestsOf (specification_of spec)) → IsWellFormed spec → AreTestsHonest (specification_of spec) tests → HasNoStatements (specification_of spec) → (specification_of spec).conditions ≡ [] → (e : ℕ) → 1 ≤ e → e ≤ length (specification_of spec).entries
     → IsWithoutPriorities (root_at (roots_of (specification_of spec)) e) → VerdictsTellPlainWords (tree_machine (specification_of spec) tests) e (root_at (roots_of (specification_of spec)) e)

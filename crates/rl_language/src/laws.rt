@@ -1,5 +1,5 @@
 // Laws over the definitions.
-ghost use Rattle.std.specs.Prelude.{◌≡◌, ℕ, ◌≤◌, ◌<◌, ◌^◌, false, List, [], ◌∷◌, ◌++◌, None, Option, ◌↔◌, length};
+ghost use Rattle.std.specs.Prelude.{◌≡◌, ℕ, ◌≤◌, ◌<◌, ◌^◌, Bool, false, IsTrue, List, [], ◌∷◌, ◌++◌, None, Option, ◌↔◌, length};
 ghost use Rattle.rl_types.specs.declared.numbers.Letter.{Letter};
 ghost use Rattle.rl_automata.specs.Language.{IsWordOf, has_priority};
 ghost use Rattle.rl_automata.specs.Marks.{Marks, auto, AreHonest};
@@ -9,19 +9,18 @@ ghost use Rattle.rl_automata.specs.Scans.{Pattern, Confs, PatternMarks, ArePatte
 ghost use Rattle.rl_model.specs.declared.spec.Spec.{Spec};
 ghost use Rattle.rl_model.specs.Specification.{Specification, specification_of, roots_of};
 ghost use Rattle.rl_model.specs.WellFormed.{IsWellFormed};
-ghost use Rattle.rl_model.specs.Trees.{TestsOf, AreTestsHonest, HasHonestTests, root_at, context_of, tree_machine};
+ghost use Rattle.rl_model.specs.Trees.{TestsOf, AreTestsHonest, HasHonestTests, root_at, context_of, TreeState, tree_machine};
 ghost use Rattle.rl_build.specs.Entries.{AreMachinesOf};
 ghost use Rattle.rl_build.specs.Roots.{graph_at, root_machine, IsTwinOf};
 ghost use Rattle.rl_fsm.specs.declared.root.EntryFsm.{EntryFsm};
 ghost use Rattle.rl_fsm.specs.Graphs.{fsm_auto};
 ghost use Rattle.rl_run.specs.Alike.{MakeSameRuns};
 ghost use Rattle.rl_run.specs.Machine.{Machine};
-ghost use Rattle.rl_types.specs.Alphabet.{key_of};
-ghost use Rattle.rl_language.specs.Verdicts.{IsWithoutPriorities, IsWordOfEntry, HasNoStatements, letters_from, VerdictsTellWords, VerdictsTellPlainWords};
+ghost use Rattle.rl_types.specs.Alphabet.{width_of, key_of, has_rest};
+ghost use Rattle.rl_language.specs.Verdicts.{IsWithoutPriorities, IsWordOfEntry, HasNoStatements, letters_of, IsTold, VerdictsTellWords, VerdictsTellPlainWords};
 ghost use Rattle.rl_language.specs.Replays.{EndsWithVerdict};
 ghost use Rattle.rl_replay.specs.Sessions.{Names, entry_or_start};
 ghost use Rattle.rl_replay.specs.Written.{written, whole_input};
-ghost use Rattle.rl_run.specs.declared.calls.Verdict.TheVariants.{Final};
 ghost use Rattle.rl_run.specs.declared.sessions.Settings.{Settings};
 ghost use Rattle.rl_language.specs.Scanners.{IsWordOfSome, ArePatternsWithoutPriorities, Leads, MakesToken};
 
@@ -35,13 +34,17 @@ pub fn automata_match_words()
 
 /// Where no action has a control statement, the verdict of a run says whether its input is a word of the entry: a run
 /// over a whole input from an entry whose expression has no priorities ends with the verdict Final exactly where the
-/// input's letters are one of the expression's words, unless an answer stopped it. Each condition is to be answered as it
-/// holds at its position; without conditions there is nothing to answer. What makes the same runs tells the same.
+/// input's letters are one of the expression's words, unless an answer stopped it; where bytes that fill no character
+/// stand at the end, it is Error. Each condition is to be answered as it holds at its position; without conditions there
+/// is nothing to answer. What makes the same runs tells the same, whichever states stand for each other.
 pub fn verdicts_tell_words()
     ensures trees { (spec : Specification) (tests : TestsOf spec) → AreTestsHonest spec tests → HasNoStatements spec → (e : ℕ) → 1 ≤ e → e ≤ length spec.entries →
         IsWithoutPriorities (root_at (roots_of spec) e) → VerdictsTellWords (tree_machine spec tests) e (root_at (roots_of spec) e) }
-    ensures alike { (spec : Specification) (tests : TestsOf spec) (m : Machine ℕ) (rename : ℕ → ℕ) → AreTestsHonest spec tests → HasNoStatements spec → (e : ℕ) → 1 ≤ e → e ≤ length spec.entries →
-        IsWithoutPriorities (root_at (roots_of spec) e) → MakeSameRuns (tree_machine spec tests) m rename → ((byte : ℕ) → m.key_of byte ≡ key_of spec.alphabet byte) →
+    ensures alike { (spec : Specification) (tests : TestsOf spec) (m : Machine ℕ) (rename : ℕ → ℕ) (stands : TreeState spec → ℕ → Bool) →
+        AreTestsHonest spec tests → HasNoStatements spec → (e : ℕ) → 1 ≤ e → e ≤ length spec.entries →
+        IsWithoutPriorities (root_at (roots_of spec) e) →
+        MakeSameRuns (tree_machine spec tests) m rename (λ q p. IsTrue (stands q p)) →
+        m.width ≡ width_of spec.alphabet → ((character : ℕ) → m.key_of character ≡ key_of spec.alphabet character) →
         VerdictsTellWords m e (root_at (roots_of spec) e) }
     ensures unasked { (spec : Spec) (tests : TestsOf (specification_of spec)) → IsWellFormed spec → AreTestsHonest (specification_of spec) tests → HasNoStatements (specification_of spec) → (specification_of spec).conditions ≡ [] →
         (e : ℕ) → 1 ≤ e → e ≤ length (specification_of spec).entries → IsWithoutPriorities (root_at (roots_of (specification_of spec)) e) →
@@ -50,12 +53,17 @@ pub fn verdicts_tell_words()
 
 /// So a replay says of an input whether it is a word: where no action has a control statement, the last line that is written
 /// for a script which opens a session, feeds it one piece and ends it is the session's end line, and its verdict is Final
-/// exactly where the piece is a word of the session's entry. The host says No to each condition, so none holds.
+/// exactly where the piece is a word of the session's entry, and Error where bytes that fill no character stand at its
+/// end. The host says No to each condition, so none holds.
 pub fn replays_tell_words()
-    ensures { (spec : Specification) (tests : TestsOf spec) → AreTestsHonest spec tests → HasNoStatements spec → (names : Names) (settings : Settings) (s : List ℕ) (entry : Option (List ℕ)) (bytes : List ℕ) → length bytes < 2 ^ 63 →
-        1 ≤ entry_or_start names entry → entry_or_start names entry ≤ length spec.entries → IsWithoutPriorities (root_at (roots_of spec) (entry_or_start names entry)) →
+    ensures { (spec : Specification) (tests : TestsOf spec) → AreTestsHonest spec tests → HasNoStatements spec →
+        (names : Names) (settings : Settings) (s : List ℕ) (entry : Option (List ℕ)) (bytes : List ℕ) → length bytes < 2 ^ 63 →
+        1 ≤ entry_or_start names entry → entry_or_start names entry ≤ length spec.entries →
+        IsWithoutPriorities (root_at (roots_of spec) (entry_or_start names entry)) →
         EndsWithVerdict (written names (tree_machine spec tests) settings (whole_input s entry bytes)) s
-        (λ verdict. (verdict ≡ Final) ↔ IsWordOfEntry (root_at (roots_of spec) (entry_or_start names entry)) (letters_from (key_of spec.alphabet) (λ p. 0) 0 bytes)) }
+        (λ verdict. IsTold verdict (has_rest (width_of spec.alphabet) bytes)
+        (IsWordOfEntry (root_at (roots_of spec) (entry_or_start names entry))
+        (letters_of (width_of spec.alphabet) (key_of spec.alphabet) (λ p. 0) bytes))) }
 {}
 
 /// A scanner whose patterns have no priorities: its automaton goes along a word to a match exactly where the word is one of
