@@ -36,13 +36,14 @@ fn texts_are_read(rt: HostRuntime) {
 }
 
 /// The arrays of numbers of `'ab' $x`, in the order of a data section.
-const WORD: [&[i64]; 24] = [
+const WORD: [&[i64]; 25] = [
     &[0, 1, 1],
     &[0, 0, 1, 2],
     &[97, 98, 0],
     &[0, 1, 1, 0],
     &[0, 0, 0, 0],
     &[0, 0, 1, 2],
+    &[],
     &[0, 0, 0],
     &[0, 1, 0],
     &[2, 3, 0],
@@ -114,6 +115,7 @@ fn names_of(alloc: Global, actions: &[&str]) -> Result<NameLists, AllocError> {
 fn assembled(alloc: Global, names: NameLists, mut lists: Vec<List<i64>>) -> Arrays {
     let lists = &mut lists;
     Arrays {
+        version: 1,
         name: names.machine,
         start: 1,
         first_final: 3,
@@ -124,6 +126,7 @@ fn assembled(alloc: Global, names: NameLists, mut lists: Vec<List<i64>>) -> Arra
         single_lengths: next(alloc, lists),
         range_lengths: next(alloc, lists),
         cell_offsets: next(alloc, lists),
+        cell_uses: next(alloc, lists),
         cell_asks: next(alloc, lists),
         cell_entries: next(alloc, lists),
         trans_targs: next(alloc, lists),
