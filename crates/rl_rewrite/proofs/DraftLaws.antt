@@ -1,7 +1,8 @@
 -- The sets of what a draft's definitions stand for.
-use Rattle.std.proofs.Common.{◌<ℤ◌, ints, ◌≡◌, ℕ, zero, suc, ◌++◌, Bool, true, false, cond, List, [], ◌∷◌, map, Option, Some, None, refl, ap, sym, subst, ◌∙◌}
+use Rattle.std.proofs.Common.{◌<ℤ◌, arith, ◌≡◌, ℕ, zero, suc, ◌++◌, Bool, true, false, cond, List, [], ◌∷◌, map, Option, Some, None, refl, ap, sym, subst, ◌∙◌}
 use Rattle.std.specs.Prelude.{All, slice_get, option_to_list}
 use Rattle.std.specs.List.{flat_map}
+use Rattle.std.proofs.lemmas.Int.{ints}
 use Rattle.std.proofs.lemmas.List.Elements.{All-nil, All-cons, All-append, All-head, All-tail}
 use Rattle.rl_types.specs.declared.alphabet.Alphabet.{Alphabet}
 use Rattle.rl_types.specs.declared.numbers.Place.{Place}
@@ -211,13 +212,13 @@ any_is_set : (alphabet : Alphabet) → IsSet alphabet (any alphabet)
 any_is_set alphabet = (tt, All-cons (IsInAlphabet alphabet) _ [] (any_is_in alphabet) (All-nil (IsInAlphabet alphabet)))
 
 -- the ends of an alphabet ascend
-pub keys_ascend : (alphabet : Alphabet) → greatest_key alphabet <ℤ least_key alphabet → ⊥
-keys_ascend alphabets.Char h = omega (ints, h)
-keys_ascend alphabets.UnsignedChar h = omega (ints, h)
-keys_ascend alphabets.Short h = omega (ints, h)
-keys_ascend alphabets.UnsignedShort h = omega (ints, h)
-keys_ascend alphabets.Int h = omega (ints, h)
-keys_ascend alphabets.UnsignedInt h = omega (ints, h)
+pub ends_ascend : (alphabet : Alphabet) → greatest_key alphabet <ℤ least_key alphabet → ⊥
+ends_ascend alphabets.Char h = omega (arith, ints, h)
+ends_ascend alphabets.UnsignedChar h = omega (arith, ints, h)
+ends_ascend alphabets.Short h = omega (arith, ints, h)
+ends_ascend alphabets.UnsignedShort h = omega (arith, ints, h)
+ends_ascend alphabets.Int h = omega (arith, ints, h)
+ends_ascend alphabets.UnsignedInt h = omega (arith, ints, h)
 
 -- the sets of all entries are in order and in the alphabet
 pub entries_in_form : (draft : Draft) (es : List rust.Entry) → HasSetsInForm draft → map made_of es ≡ entries [] (meanings draft)

@@ -1,5 +1,5 @@
 -- Expressions with their names followed, in which the operators are reduced to few (the guide's sections 2.3 and 2.5).
-use Rattle.std.specs.Prelude.{ℕ, cond, List, [], ◌∷◌, ◌++◌, slice_get, Option, Some, None}
+use Rattle.std.specs.Prelude.{ℕ, map, cond, List, [], ◌∷◌, ◌++◌, slice_get, Option, Some, None}
 use Rattle.rl_types.specs.declared.alphabet.Alphabet.{Alphabet}
 use Rattle.rl_types.specs.declared.numbers.Place.{Place}
 use Rattle.rl_types.specs.Alphabet.{least_key, greatest_key}
@@ -175,6 +175,9 @@ followed alphabet earlier e = plain alphabet (plains alphabet earlier) e
 -- an operand, with its join
 abbrev pub operand_followed : Alphabet → List Definition → Link → Operand
 operand_followed alphabet earlier l = operand alphabet (plains alphabet earlier) l
+
+abbrev pub operands_followed : Alphabet → List Definition → List Link → List Operand
+operands_followed alphabet earlier ls = map (operand_followed alphabet earlier) ls
 
 -- what a definition gives its name to
 abbrev pub value_followed : Alphabet → List Definition → Value → Plain

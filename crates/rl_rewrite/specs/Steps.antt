@@ -1,5 +1,5 @@
 -- What the code's values stand for, and what its steps compute.
-use Rattle.std.specs.Prelude.{ℕ, ◌+◌, ◌*◌, ◌-◌, ◌<◌, ◌≤◌, ◌^◌, Bool, true, cond, List, [], ◌∷◌, length, Option, Some, None, is_none}
+use Rattle.std.specs.Prelude.{◌≡◌, ℕ, ◌+◌, ◌*◌, ◌-◌, ◌<◌, ◌≤◌, ◌^◌, Bool, true, cond, List, [], ◌∷◌, length, Option, Some, None, is_none}
 use Rattle.rl_types.specs.declared.alphabet.Alphabet.{Alphabet}
 use Rattle.rl_types.specs.declared.numbers.Place.{Place}
 use Rattle.rl_types.specs.KeyRange.{Range}
@@ -45,6 +45,14 @@ AreFew c = (length c.names ≤ c.stamp) × (length c.conditions ≤ 9)
 -- the stamps of so many nodes fit
 abbrev pub HasRoom : Counts → ℕ → Type 0
 HasRoom c k = (c.stamp + 3 * k < 2 ^ 32 - 1) × AreFew c
+
+-- the stamps of so many nodes
+abbrev pub MayStamp : ℕ → Counts → Counts → Type 0
+MayStamp k before after = after.stamp ≤ before.stamp + 3 * k
+
+-- a walk comes to this tree and these counts
+abbrev pub Gives : Placed × Counts → rust.Placed → Counts → Type 0
+Gives walked made after = (placed_of made, after) ≡ walked
 
 -- ---- rows
 

@@ -26,7 +26,7 @@ pub enum Opening {
     Finishing(Placed, u32),
 }
 
-#[tactic(auto, using(crate::proofs::DraftLaws::keys_ascend))]
+#[tactic(auto, using(crate::proofs::DraftLaws::ends_ascend))]
 fn any(alloc: Global, alphabet: Alphabet) -> Result<List<KeyRange>, AllocError>
     ensures { IfOk result (λ r. r ≡ p.any alphabet) }
 {

@@ -1,6 +1,6 @@
 // Nodes and depth of trees before they are made.
 ghost use Rattle.std.specs.Prelude.{◌≡◌, ◌≤◌, min, max, map, slice_get, IfOk};
-ghost use Rattle.rl_rewrite.specs.Plain.{followed, operand_followed, value_followed, name_followed, leaf_plain, row};
+ghost use Rattle.rl_rewrite.specs.Plain.{followed, operand_followed, operands_followed, value_followed, name_followed, leaf_plain, row};
 ghost use Rattle.rl_rewrite.specs.Sizes.{row_nodes, row_depth};
 ghost use Rattle.rl_rewrite.specs.Measures as m;
 ghost use Rattle.rl_rewrite.specs.Measures.{IsCut, AreSizes, cut, measured};
@@ -9,7 +9,8 @@ use crate::leaves::first_item;
 use crate::repeats::has_copies;
 use crate::walk::before;
 use rl_draft::{
-    Bounds, Definition, Expression, Item, Join, Leaf, Link, Negation, NegationSign, Repetition, Value,
+    Bounds, Definition, Expression, Item, Join, Leaf, Link, Negation, NegationSign, Repetition,
+    Value,
 };
 use rl_types::{Alphabet, List};
 use std::alloc::{AllocError, Global};
@@ -305,7 +306,7 @@ fn links_of(
 ) -> Size
     requires sizes { AreSizes alphabet earlier.now sizes.now }
     requires cut { IsCut s }
-    ensures size { result ≡ m.chained_size s (map (operand_followed alphabet earlier.now) links.now) }
+    ensures size { result ≡ m.chained_size s (operands_followed alphabet earlier.now links.now) }
 {
     let mut s = s;
     for link in links {

@@ -1,10 +1,10 @@
 // The walk over an expression whose names are numbers of earlier definitions.
 ghost use Rattle.std.specs.Prelude.{◌≡◌, ◌+◌, ◌*◌, ◌≤◌, ◌∷◌, [], map, slice_get, take, length, Some, MatchOption, IfOk, OnOk};
-ghost use Rattle.rl_rewrite.specs.Plain.{followed, operand_followed, value_followed, name_followed, all_repeated, all_negated};
+ghost use Rattle.rl_rewrite.specs.Plain.{followed, operand_followed, operands_followed, value_followed, name_followed, all_repeated, all_negated};
 ghost use Rattle.rl_rewrite.specs.Plain as p;
 ghost use Rattle.rl_rewrite.specs.Walk as w;
 ghost use Rattle.rl_rewrite.specs.Sizes.{nodes};
-ghost use Rattle.rl_rewrite.specs.Steps.{placed_of, AreFew, HasRoom, joined_on, chained_on, chained_behind, operand_nodes};
+ghost use Rattle.rl_rewrite.specs.Steps.{placed_of, Gives, AreFew, HasRoom, MayStamp, joined_on, chained_on, chained_behind, operand_nodes};
 
 use crate::counts::Counts;
 use crate::joins::{close, open, whole};
@@ -35,8 +35,8 @@ pub fn walk(
     counts: &mut Counts,
 ) -> Result<Placed, AllocError>
     requires room { HasRoom counts.old (nodes (followed alphabet earlier.now e.now)) }
-    ensures tree { IfOk result (λ r. (placed_of r, counts.new) ≡ w.walk (followed alphabet earlier.now e.now) counts.old) }
-    ensures stamp { OnOk result (counts.new.stamp ≤ counts.old.stamp + 3 * nodes (followed alphabet earlier.now e.now)) }
+    ensures tree { IfOk result (λ r. Gives (w.walk (followed alphabet earlier.now e.now) counts.old) r counts.new) }
+    ensures stamp { OnOk result (MayStamp (nodes (followed alphabet earlier.now e.now)) counts.old counts.new) }
     ensures few { OnOk result (AreFew counts.new) }
 {
     match e {
@@ -113,8 +113,8 @@ fn walk_name(
     counts: &mut Counts,
 ) -> Result<Placed, AllocError>
     requires room { HasRoom counts.old (nodes (name_followed alphabet earlier.now n)) }
-    ensures tree { IfOk result (λ r. (placed_of r, counts.new) ≡ w.walk (name_followed alphabet earlier.now n) counts.old) }
-    ensures stamp { OnOk result (counts.new.stamp ≤ counts.old.stamp + 3 * nodes (name_followed alphabet earlier.now n)) }
+    ensures tree { IfOk result (λ r. Gives (w.walk (name_followed alphabet earlier.now n) counts.old) r counts.new) }
+    ensures stamp { OnOk result (MayStamp (nodes (name_followed alphabet earlier.now n)) counts.old counts.new) }
     ensures few { OnOk result (AreFew counts.new) }
 {
     match definition_at(earlier, n as usize) {
@@ -133,8 +133,8 @@ pub fn walk_value(
     counts: &mut Counts,
 ) -> Result<Placed, AllocError>
     requires room { HasRoom counts.old (nodes (value_followed alphabet earlier.now value.now)) }
-    ensures tree { IfOk result (λ r. (placed_of r, counts.new) ≡ w.walk (value_followed alphabet earlier.now value.now) counts.old) }
-    ensures stamp { OnOk result (counts.new.stamp ≤ counts.old.stamp + 3 * nodes (value_followed alphabet earlier.now value.now)) }
+    ensures tree { IfOk result (λ r. Gives (w.walk (value_followed alphabet earlier.now value.now) counts.old) r counts.new) }
+    ensures stamp { OnOk result (MayStamp (nodes (value_followed alphabet earlier.now value.now)) counts.old counts.new) }
     ensures few { OnOk result (AreFew counts.new) }
 {
     match value {
@@ -155,8 +155,8 @@ fn walk_link(
     counts: &mut Counts,
 ) -> Result<Placed, AllocError>
     requires room { HasRoom counts.old (operand_nodes (operand_followed alphabet earlier.now link.now ∷ [])) }
-    ensures tree { IfOk result (λ r. (placed_of r, counts.new) ≡ joined_on alphabet at (operand_followed alphabet earlier.now link.now) (placed_of x) counts.old) }
-    ensures stamp { OnOk result (counts.new.stamp ≤ counts.old.stamp + 3 * operand_nodes (operand_followed alphabet earlier.now link.now ∷ [])) }
+    ensures tree { IfOk result (λ r. Gives (joined_on alphabet at (operand_followed alphabet earlier.now link.now) (placed_of x) counts.old) r counts.new) }
+    ensures stamp { OnOk result (MayStamp (operand_nodes (operand_followed alphabet earlier.now link.now ∷ [])) counts.old counts.new) }
     ensures few { OnOk result (AreFew counts.new) }
 {
     let opening = open(alloc, alphabet, link.join, at, x, counts)?;
@@ -176,9 +176,9 @@ fn walk_links(
     x: Placed,
     counts: &mut Counts,
 ) -> Result<Placed, AllocError>
-    requires room { HasRoom counts.old (operand_nodes (map (operand_followed alphabet earlier.now) links.now)) }
-    ensures tree { IfOk result (λ r. (placed_of r, counts.new) ≡ chained_on alphabet at (map (operand_followed alphabet earlier.now) links.now) (placed_of x) counts.old) }
-    ensures stamp { OnOk result (counts.new.stamp ≤ counts.old.stamp + 3 * operand_nodes (map (operand_followed alphabet earlier.now) links.now)) }
+    requires room { HasRoom counts.old (operand_nodes (operands_followed alphabet earlier.now links.now)) }
+    ensures tree { IfOk result (λ r. Gives (chained_on alphabet at (operands_followed alphabet earlier.now links.now) (placed_of x) counts.old) r counts.new) }
+    ensures stamp { OnOk result (MayStamp (operand_nodes (operands_followed alphabet earlier.now links.now)) counts.old counts.new) }
     ensures few { OnOk result (AreFew counts.new) }
 {
     let mut x = x;
@@ -199,9 +199,9 @@ fn walk_chain(
     at: Place,
     counts: &mut Counts,
 ) -> Result<Placed, AllocError>
-    requires room { HasRoom counts.old (nodes (followed alphabet earlier.now first.now) + operand_nodes (map (operand_followed alphabet earlier.now) links.now)) }
-    ensures tree { IfOk result (λ r. (placed_of r, counts.new) ≡ chained_behind alphabet at (followed alphabet earlier.now first.now) (map (operand_followed alphabet earlier.now) links.now) counts.old) }
-    ensures stamp { OnOk result (counts.new.stamp ≤ counts.old.stamp + 3 * (nodes (followed alphabet earlier.now first.now) + operand_nodes (map (operand_followed alphabet earlier.now) links.now))) }
+    requires room { HasRoom counts.old (nodes (followed alphabet earlier.now first.now) + operand_nodes (operands_followed alphabet earlier.now links.now)) }
+    ensures tree { IfOk result (λ r. Gives (chained_behind alphabet at (followed alphabet earlier.now first.now) (operands_followed alphabet earlier.now links.now) counts.old) r counts.new) }
+    ensures stamp { OnOk result (MayStamp (nodes (followed alphabet earlier.now first.now) + operand_nodes (operands_followed alphabet earlier.now links.now)) counts.old counts.new) }
     ensures few { OnOk result (AreFew counts.new) }
 {
     let x = walk(alloc, alphabet, earlier, first, counts)?;
@@ -221,8 +221,8 @@ fn walk_repeated(
     counts: &mut Counts,
 ) -> Result<Placed, AllocError>
     requires room { HasRoom counts.old (nodes (all_repeated rs.now (followed alphabet earlier.now e.now) at)) }
-    ensures tree { IfOk result (λ r. (placed_of r, counts.new) ≡ w.walk (all_repeated rs.now (followed alphabet earlier.now e.now) at) counts.old) }
-    ensures stamp { OnOk result (counts.new.stamp ≤ counts.old.stamp + 3 * nodes (all_repeated rs.now (followed alphabet earlier.now e.now) at)) }
+    ensures tree { IfOk result (λ r. Gives (w.walk (all_repeated rs.now (followed alphabet earlier.now e.now) at) counts.old) r counts.new) }
+    ensures stamp { OnOk result (MayStamp (nodes (all_repeated rs.now (followed alphabet earlier.now e.now) at)) counts.old counts.new) }
     ensures few { OnOk result (AreFew counts.new) }
 {
     if are_copies(rs) {
@@ -245,8 +245,8 @@ fn walk_negated(
     counts: &mut Counts,
 ) -> Result<Placed, AllocError>
     requires room { HasRoom counts.old (nodes (all_negated alphabet ns.now (followed alphabet earlier.now e.now))) }
-    ensures tree { IfOk result (λ r. (placed_of r, counts.new) ≡ w.walk (all_negated alphabet ns.now (followed alphabet earlier.now e.now)) counts.old) }
-    ensures stamp { OnOk result (counts.new.stamp ≤ counts.old.stamp + 3 * nodes (all_negated alphabet ns.now (followed alphabet earlier.now e.now))) }
+    ensures tree { IfOk result (λ r. Gives (w.walk (all_negated alphabet ns.now (followed alphabet earlier.now e.now)) counts.old) r counts.new) }
+    ensures stamp { OnOk result (MayStamp (nodes (all_negated alphabet ns.now (followed alphabet earlier.now e.now))) counts.old counts.new) }
     ensures few { OnOk result (AreFew counts.new) }
 {
     match ns {
@@ -271,8 +271,8 @@ fn walk_embedded(
     counts: &mut Counts,
 ) -> Result<Placed, AllocError>
     requires room { HasRoom counts.old (nodes (p.Series (followed alphabet earlier.now e.now) puts.now at)) }
-    ensures tree { IfOk result (λ r. (placed_of r, counts.new) ≡ w.walk (p.Series (followed alphabet earlier.now e.now) puts.now at) counts.old) }
-    ensures stamp { OnOk result (counts.new.stamp ≤ counts.old.stamp + 3 * nodes (p.Series (followed alphabet earlier.now e.now) puts.now at)) }
+    ensures tree { IfOk result (λ r. Gives (w.walk (p.Series (followed alphabet earlier.now e.now) puts.now at) counts.old) r counts.new) }
+    ensures stamp { OnOk result (MayStamp (nodes (p.Series (followed alphabet earlier.now e.now) puts.now at)) counts.old counts.new) }
     ensures few { OnOk result (AreFew counts.new) }
 {
     let layers = first_layers(alloc, puts, counts)?;
