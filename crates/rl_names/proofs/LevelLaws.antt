@@ -82,10 +82,8 @@ negated_both k n = fold_out-Negated Told Told Joined Told Told Place Told Place 
 negated_at : (k : Scope) (n : Negated) → (x.negated_told k n).place ≡ negated_place n
 negated_at k n = ap (λ (t : Told). t.place) (negated_both k n) ∙ ap (front (out-Negated n).negations) (operand_at k (out-Negated n).operand)
 
-pub negated_is : (k : Scope) (n : Negated) → (x.negated_told k n).read ≡ and_then (x.operand_told k (out-Negated n).operand).read (λ e. Ok (with_negations (map negation_of (out-Negated n).negations) (negated_place n) e))
-negated_is k n =
-    ap (λ (t : Told). t.read) (negated_both k n)
-    ∙ ap (λ p. and_then (x.operand_told k (out-Negated n).operand).read (λ e. Ok (with_negations (map negation_of (out-Negated n).negations) (front (out-Negated n).negations p) e))) (operand_at k (out-Negated n).operand)
+pub negated_is : (k : Scope) (n : Negated) → (x.negated_told k n).read ≡ and_then (x.operand_told k (out-Negated n).operand).read (λ e. Ok (with_negations (map negation_of (out-Negated n).negations) e))
+negated_is k n = ap (λ (t : Told). t.read) (negated_both k n)
 
 repeated_both : (k : Scope) (r : Repeated) → x.repeated_told k r ≡ x.repeated_step k (record { operand = x.negated_told k (out-Repeated r).operand; repetitions = (out-Repeated r).repetitions })
 unfolding x.operand_told x.concatenation_told x.concatenation_part_told x.embedded_told x.negated_told x.pattern_told x.repeated_told x.scanner_told x.union_told x.union_part_told

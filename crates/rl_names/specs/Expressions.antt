@@ -61,8 +61,8 @@ use Rattle.rl_draft.specs.declared.expression.Join.{Join}
 use Rattle.rl_draft.specs.declared.expression.Join.TheVariants as join
 use Rattle.rl_draft.specs.declared.expression.Leaf.{Leaf}
 use Rattle.rl_draft.specs.declared.expression.Link.{Link, roll-Link}
-use Rattle.rl_draft.specs.declared.expression.Negation.{Negation}
 use Rattle.rl_draft.specs.declared.expression.Negation.TheVariants as negation
+use Rattle.rl_draft.specs.declared.expression.NegationSign.{NegationSign}
 use Rattle.rl_draft.specs.declared.expression.Put.{Put}
 use Rattle.rl_draft.specs.declared.expression.Put.TheVariants as put
 use Rattle.rl_draft.specs.declared.expression.Repetition.{Repetition}
@@ -112,7 +112,7 @@ followed i (layer.Leaf l place) = i
 followed i (layer.Name j) = j
 followed i (layer.Chain first rest place) = i
 followed i (layer.Repeated inner repetitions place) = i
-followed i (layer.Negated negations inner place) = i
+followed i (layer.Negated negations inner) = i
 followed i (layer.Embedded inner puts place) = i
 
 -- an expression is used by the number of its definition; a scanner's name is no expression's
@@ -211,9 +211,9 @@ repetition_read (repeating.Optional place) = Ok repetition.Optional
 repetition_read (repeating.Plus place) = Ok repetition.Plus
 repetition_read (repeating.Count c) = and_then (bounds_read c.bounds) (counted_by c.opening)
 
-abbrev pub negation_of : Refusing → Negation
-negation_of (refusing.Language place) = negation.Language
-negation_of (refusing.Character place) = negation.Character
+abbrev pub negation_of : Refusing → NegationSign
+negation_of (refusing.Language place) = record { negation = negation.Language; place = place }
+negation_of (refusing.Character place) = record { negation = negation.Character; place = place }
 
 abbrev pub joined_by : Option ConcatenationSign → Join
 joined_by None = join.Concatenation
@@ -230,9 +230,9 @@ united_by (either.StrongDifference place) = join.StrongDifference
 
 -- ---- levels: one with nothing beside its operand is its operand
 
-abbrev pub with_negations : List Negation → Place → Expression → Expression
-with_negations [] place e = e
-with_negations (n ∷ ns) place e = made.Negated (n ∷ ns) e place
+abbrev pub with_negations : List NegationSign → Expression → Expression
+with_negations [] e = e
+with_negations (n ∷ ns) e = made.Negated (n ∷ ns) e
 
 abbrev pub with_repetitions : List Repetition → Place → Expression → Expression
 with_repetitions [] place e = e
@@ -282,7 +282,7 @@ operand_step k (operand.Scanner opening) = record { place = opening; read = misp
 abbrev pub negated_step : Scope → Negated-F Told Told Joined Told Told Place Told Place Told Joined → Told
 negated_step k n = record {
   place = front n.negations n.operand.place;
-  read = and_then n.operand.read (λ e. Ok (with_negations (map negation_of n.negations) (front n.negations n.operand.place) e));
+  read = and_then n.operand.read (λ e. Ok (with_negations (map negation_of n.negations) e));
 }
 
 abbrev pub repeated_step : Scope → Repeated-F Told Told Joined Told Told Place Told Place Told Joined → Told

@@ -3,8 +3,10 @@ use Rattle.std.specs.Prelude.{ℕ, Bool, true, not, ◌&&◌, if◌then◌else�
 use Rattle.std.specs.List.{list_any, position_or_len}
 use Rattle.std.specs.Str.{bytes_eq}
 use Rattle.rl_types.specs.declared.alphabet.Alphabet.{Alphabet}
-use Rattle.rl_types.specs.declared.alphabet.Alphabet.TheVariants.{Char, UnsignedChar}
+use Rattle.rl_types.specs.declared.alphabet.Alphabet.TheVariants.{Char, UnsignedChar, Short, UnsignedShort, Int, UnsignedInt}
 use Rattle.rl_types.specs.declared.numbers.Place.{Place}
+use Rattle.rl_grammar.specs.declared.syntax.AlphabetWord.{AlphabetWord}
+use Rattle.rl_grammar.specs.declared.syntax.AlphabetWord.TheVariants as word
 use Rattle.rl_grammar.specs.declared.syntax.Statement.{Statement}
 use Rattle.rl_grammar.specs.declared.syntax.Statement.TheVariants as statement
 use Rattle.rl_grammar.specs.declared.syntax.WriteKind.{WriteKind as Asked}
@@ -22,12 +24,17 @@ is_of machine s = bytes_eq machine s.machine
 
 -- ---- the alphabet: that of the last `alphtype`, or else `char`
 
-abbrev pub alphabet_said : Option Place → Alphabet
-alphabet_said None = Char
-alphabet_said (Some unsigned) = UnsignedChar
+-- the alphabet of a word, behind `unsigned` where that stands
+abbrev pub alphabet_said : Option Place → AlphabetWord → Alphabet
+alphabet_said None (word.Char place) = Char
+alphabet_said None (word.Short place) = Short
+alphabet_said None (word.Int place) = Int
+alphabet_said (Some unsigned) (word.Char place) = UnsignedChar
+alphabet_said (Some unsigned) (word.Short place) = UnsignedShort
+alphabet_said (Some unsigned) (word.Int place) = UnsignedInt
 
 abbrev pub alphabet_by : Alphabet → Statement → Alphabet
-alphabet_by a (statement.Alphtype s) = alphabet_said s.unsigned
+alphabet_by a (statement.Alphtype s) = alphabet_said s.unsigned s.word
 alphabet_by a _ = a
 
 abbrev pub alphabet_behind : List ℕ → Alphabet → Step → Alphabet

@@ -7,9 +7,7 @@ ghost use Rattle.rl_names.specs.Scopes.{kept};
 use crate::alone::{literal, misplaced, number, range, regular, set};
 use crate::levels;
 use crate::memory::push;
-use crate::places::{
-    concatenation_place, embedded_place, negated_place, repeated_place, union_place,
-};
+use crate::places::{concatenation_place, embedded_place, repeated_place, union_place};
 use crate::puts::{joined_by, negations, puts, repetitions, united_by};
 use crate::scope::Scope;
 use crate::used::name;
@@ -44,7 +42,7 @@ fn negated(alloc: Global, scope: &Scope<'_>, negated: &Negated) -> Result<Expres
 {
     let inner = operand(alloc, scope, &negated.operand)?;
     let negations = negations(alloc, negated.negations.as_slice())?;
-    levels::negated(alloc, negations, negated_place(negated), inner)
+    levels::negated(alloc, negations, inner)
 }
 
 #[cycle(expressions)]

@@ -6,10 +6,10 @@ ghost use Rattle.rl_names.specs.TableForms.{pointed};
 ghost use Rattle.rl_grammar.specs.Steps.{is_included};
 
 use crate::memory::{name_of, push};
-use rl_grammar::syntax::{Statement, WriteKind as Asked};
+use rl_grammar::syntax::{AlphabetWord, Statement, WriteKind as Asked};
 use rl_grammar::{ReadFault, Step};
 use rl_model::{Frame, Write, WriteKind};
-use rl_types::{Alphabet, Code, List, Name};
+use rl_types::{Alphabet, Code, List, Name, Place};
 use std::alloc::Global;
 
 /// Whether a step stands in an included file.
@@ -26,15 +26,26 @@ pub fn is_of(machine: &[u8], step: &Step) -> bool
     machine == step.machine.bytes()
 }
 
+/// The alphabet of a word, behind `unsigned` where that stands.
+fn alphabet_said(unsigned: Option<Place>, word: AlphabetWord) -> Alphabet
+    ensures { result ≡ frames.alphabet_said unsigned word }
+{
+    match (unsigned, word) {
+        (None, AlphabetWord::Char(_)) => Alphabet::Char,
+        (None, AlphabetWord::Short(_)) => Alphabet::Short,
+        (None, AlphabetWord::Int(_)) => Alphabet::Int,
+        (Some(_), AlphabetWord::Char(_)) => Alphabet::UnsignedChar,
+        (Some(_), AlphabetWord::Short(_)) => Alphabet::UnsignedShort,
+        (Some(_), AlphabetWord::Int(_)) => Alphabet::UnsignedInt,
+    }
+}
+
 /// The alphabet behind a statement of its machine.
 pub fn alphabet_by(alphabet: Alphabet, statement: &Statement) -> Alphabet
     ensures { result ≡ frames.alphabet_by alphabet statement.now }
 {
     match statement {
-        Statement::Alphtype(one) => match one.unsigned {
-            Some(_) => Alphabet::UnsignedChar,
-            None => Alphabet::Char,
-        },
+        Statement::Alphtype(one) => alphabet_said(one.unsigned, one.word),
         Statement::Machine(_)
         | Statement::Include(_)
         | Statement::Access(_)

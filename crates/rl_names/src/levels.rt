@@ -3,7 +3,7 @@ ghost use Rattle.std.specs.Prelude.{◌≡◌, MatchResult};
 ghost use Rattle.rl_grammar.specs.declared.read_fault.ReadFault.TheVariants as reason;
 ghost use Rattle.rl_names.specs.Expressions as expressions;
 
-use rl_draft::{Expression, Link, Negation, Put, Repetition};
+use rl_draft::{Expression, Link, NegationSign, Put, Repetition};
 use rl_grammar::ReadFault;
 use rl_types::{Boxed, List, Place};
 use std::alloc::Global;
@@ -20,17 +20,16 @@ fn boxed(alloc: Global, operand: Expression) -> Result<Boxed<Expression>, ReadFa
 /// An operand behind negations.
 pub fn negated(
     alloc: Global,
-    negations: List<Negation>,
-    place: Place,
+    negations: List<NegationSign>,
     operand: Expression,
 ) -> Result<Expression, ReadFault>
-    ensures { MatchResult result (λ e. e ≡ expressions.with_negations negations place operand) (λ e. e ≡ reason.Memory) }
+    ensures { MatchResult result (λ e. e ≡ expressions.with_negations negations operand) (λ e. e ≡ reason.Memory) }
 {
     match negations.as_slice() {
         [] => Ok(operand),
         [_, ..] => {
             let operand = boxed(alloc, operand)?;
-            Ok(Expression::Negated(negations, operand, place))
+            Ok(Expression::Negated(negations, operand))
         }
     }
 }

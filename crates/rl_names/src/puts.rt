@@ -14,7 +14,7 @@ use crate::places::number_place;
 use crate::scope::Scope;
 use crate::texts;
 use rl_automata::{Class, Kind};
-use rl_draft::{Bounds, Join, Negation, Put, Repetition, Transitions};
+use rl_draft::{Bounds, Join, Negation, NegationSign, Put, Repetition, Transitions};
 use rl_grammar::ReadFault;
 use rl_grammar::syntax::{
     ActionUse, Bounds as Braces, ConcatenationSign, Embedding, Label, NamedPriority,
@@ -275,17 +275,23 @@ pub fn repetitions(alloc: Global, all: &[Repeating]) -> Result<List<Repetition>,
     Ok(found)
 }
 
-fn negation_of(negation: &Refusing) -> Negation
+fn negation_of(negation: &Refusing) -> NegationSign
     ensures { result ≡ expressions.negation_of negation.now }
 {
     match negation {
-        Refusing::Language(_) => Negation::Language,
-        Refusing::Character(_) => Negation::Character,
+        Refusing::Language(place) => NegationSign {
+            negation: Negation::Language,
+            place: *place,
+        },
+        Refusing::Character(place) => NegationSign {
+            negation: Negation::Character,
+            place: *place,
+        },
     }
 }
 
 /// Negations, the outermost first.
-pub fn negations(alloc: Global, all: &[Refusing]) -> Result<List<Negation>, ReadFault>
+pub fn negations(alloc: Global, all: &[Refusing]) -> Result<List<NegationSign>, ReadFault>
     ensures { MatchResult result (λ read. read ≡ map expressions.negation_of all.now) (λ e. e ≡ reason.Memory) }
 {
     let mut found = List::new(alloc);

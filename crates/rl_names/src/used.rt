@@ -24,7 +24,7 @@ fn followed(index: u32, expression: &Expression) -> u32
         Expression::Leaf(_, _)
         | Expression::Chain(_, _, _)
         | Expression::Repeated(_, _, _)
-        | Expression::Negated(_, _, _)
+        | Expression::Negated(_, _)
         | Expression::Embedded(_, _, _) => index,
     }
 }
