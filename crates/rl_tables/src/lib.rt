@@ -21,8 +21,6 @@ mod step;
 mod sums;
 mod tables;
 mod targets;
-#[cfg(test)]
-mod tests;
 mod walk;
 
 pub use rl_arrays::{ArrayName, Arrays, BadValue};
