@@ -30,7 +30,7 @@ not_empty a list = ne_eqb (suc (length list)) 0 (λ e. omega arith)
 pub some_listed : (lists : List (List ActionId)) (a : ActionId) (list : List ActionId) → listed lists (a ∷ list) ≡ true → list_any (same_actions (a ∷ list)) lists ≡ true
 some_listed lists a list e = sym (λ i. not_empty a list i || list_any (same_actions (a ∷ list)) lists) ∙ e
 
-any_append : {X : Type 0} → (p : X → Bool) (xs ys : List X) → list_any p xs ≡ true → list_any p (xs ++ ys) ≡ true
+pub any_append : {X : Type 0} → (p : X → Bool) (xs ys : List X) → list_any p xs ≡ true → list_any p (xs ++ ys) ≡ true
 any_append p [] ys e = absurd (true≢false (sym e))
 any_append p (x ∷ xs) ys e = by (p x) e (any_append p xs ys)
   where
@@ -38,7 +38,7 @@ any_append p (x ∷ xs) ys e = by (p x) e (any_append p xs ys)
     by true e f = refl
     by false e f = f e
 
-any_last : {X : Type 0} → (p : X → Bool) (xs : List X) (x : X) → p x ≡ true → list_any p (xs ++ x ∷ []) ≡ true
+pub any_last : {X : Type 0} → (p : X → Bool) (xs : List X) (x : X) → p x ≡ true → list_any p (xs ++ x ∷ []) ≡ true
 any_last p [] x e = or_left (p x) false e
 any_last p (y ∷ xs) x e = or_right (p y) (list_any p (xs ++ x ∷ [])) (any_last p xs x e)
 

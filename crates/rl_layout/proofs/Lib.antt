@@ -7,6 +7,8 @@ pub mod GroupLaws
 pub mod MergeLaws
 pub mod FoundLaws
 pub mod BookLaws
+pub mod ShareLaws
+pub mod ShareCode
 pub mod Segments
 pub mod SpecLaws
 pub mod StepLaws

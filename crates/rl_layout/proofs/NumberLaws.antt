@@ -16,7 +16,7 @@ use Rattle.rl_minimal.specs.declared.state.MinState.{MinState}
 use Rattle.rl_minimal.specs.Minimal.{Minimal, numbers}
 use Rattle.rl_layout.specs.declared.runs.Run.{Run}
 use Rattle.rl_layout.specs.Runs.{edges_of, same_actions}
-use Rattle.rl_layout.specs.Cells.{ordered_of, asks_of, entry_count, edge_at, steps_of_run}
+use Rattle.rl_layout.specs.Cells.{ordered_of, asks_of, entry_count, edge_at, steps_of_run, steps_of}
 use Rattle.rl_layout.specs.Books.{is_empty, with_list, with_lists, list_of, uses_of, with_uses, lists_of, with_actions, with_members, order_of}
 use Rattle.rl_layout.specs.Fits.{Fits, StateFits, EdgeFits, AreActions}
 use Rattle.rl_layout.proofs.ListLaws.{all_append, all_map, all_more, all_from, all_flat_map, all_mapped, found_all}
@@ -119,6 +119,30 @@ uses_all : (P : List ActionId → Type 0) (states : List MinState) (lists : List
 uses_all P [] lists own all = all
 uses_all P (s ∷ states) lists own all = uses_all P states (with_lists lists (uses_of s)) own.1 (lists_all P (uses_of s) lists own.0 all)
 
+-- what holds of each member of each list of each state holds of each action that has a number
+pub order_all : (P : ℕ → Type 0) (states : List MinState) → AllByRecursion (λ s. AllByRecursion (λ l. AllByRecursion P (numbers l)) (uses_of s)) states → AllByRecursion P (order_of (lists_of states))
+order_all P states all = members_all P (lists_of states) [] (uses_all (λ l. AllByRecursion P (numbers l)) states [] all tt) tt
+
+-- ---- what holds of the lists of a state's edges holds of those of its steps
+
+module _ (Q : List ActionId → Type 0) (none : Q []) (R : MinEdge → Type 0) (of_edge : (e : MinEdge) → R e → Q e.list) where
+  step_all : (edges : List MinEdge) (asks j : ℕ) → AllByRecursion R edges → Q (list_of (edge_at asks j edges))
+  step_all edges asks j all = by (edge_at asks j edges) refl
+    where
+      by : (o : Option MinEdge) → edge_at asks j edges ≡ o → Q (list_of o)
+      by None e = none
+      by (Some x) e = of_edge x (found_all R (λ (e : MinEdge). nat_eq (entry_number (asked_bits asks) e.truths.0) j) edges x all e)
+
+  run_all : (edges : List MinEdge) (r : Run) → All R edges → AllByRecursion Q (map list_of (steps_of_run edges r))
+  run_all edges r all = all_map Q list_of (steps_of_run edges r)
+      (all_map (λ o. Q (list_of o)) (λ j. edge_at (asks_of edges r) j (edges_of edges r)) (range_with_len 0 (entry_count edges r))
+      (all_from (λ j. Q (list_of (edge_at (asks_of edges r) j (edges_of edges r)))) (range_with_len 0 (entry_count edges r)) (λ i j e. step_all (edges_of edges r) (asks_of edges r) j
+      (recursion_from_All R (edges_of edges r) (All-take R (r.end - r.first) (drop r.first edges) (All-drop R r.first edges all))))))
+
+  pub steps_all : (s : MinState) → All R s.edges → AllByRecursion Q (map list_of (steps_of s))
+  steps_all s all = all_map Q list_of (steps_of s) (all_flat_map (λ o. Q (list_of o)) (steps_of_run s.edges) (ordered_of s)
+      (all_from (λ r. AllByRecursion (λ o. Q (list_of o)) (steps_of_run s.edges r)) (ordered_of s) (λ i r e. all_mapped Q list_of (steps_of_run s.edges r) (run_all s.edges r all))))
+
 -- ---- the actions are the Spec's
 
 module _ (spec : Spec) (m : Minimal) (fits : Fits spec m) where
@@ -128,27 +152,9 @@ module _ (spec : Spec) (m : Minimal) (fits : Fits spec m) where
   own : (list : List ActionId) → AreActions spec list → IsOwn list
   own list all = all_map (IsNumber (length spec.actions)) (λ (a : ActionId). a.0) list (recursion_from_All (λ (a : ActionId). IsNumber (length spec.actions) a.0) list all)
 
-  step_own : (edges : List MinEdge) (asks j : ℕ) → AllByRecursion (EdgeFits spec) edges → IsOwn (list_of (edge_at asks j edges))
-  step_own edges asks j all = by (edge_at asks j edges) refl
-    where
-      by : (o : Option MinEdge) → edge_at asks j edges ≡ o → IsOwn (list_of o)
-      by None e = tt
-      by (Some x) e = own x.list (found_all (EdgeFits spec) (λ (e : MinEdge). nat_eq (entry_number (asked_bits asks) e.truths.0) j) edges x all e).actions
-
-  run_own : (edges : List MinEdge) (r : Run) → All (EdgeFits spec) edges → AllByRecursion IsOwn (map list_of (steps_of_run edges r))
-  run_own edges r all = all_map IsOwn list_of (steps_of_run edges r)
-      (all_map (λ o. IsOwn (list_of o)) (λ j. edge_at (asks_of edges r) j (edges_of edges r)) (range_with_len 0 (entry_count edges r))
-      (all_from (λ j. IsOwn (list_of (edge_at (asks_of edges r) j (edges_of edges r)))) (range_with_len 0 (entry_count edges r)) (λ i j e. step_own (edges_of edges r) (asks_of edges r) j
-      (recursion_from_All (EdgeFits spec) (edges_of edges r) (All-take (EdgeFits spec) (r.end - r.first) (drop r.first edges) (All-drop (EdgeFits spec) r.first edges all))))))
-
-  steps_own : (s : MinState) → All (EdgeFits spec) s.edges → (runs : List Run) → AllByRecursion IsOwn (map list_of (flat_map (steps_of_run s.edges) runs))
-  steps_own s all runs = all_map IsOwn list_of (flat_map (steps_of_run s.edges) runs) (all_flat_map (λ o. IsOwn (list_of o)) (steps_of_run s.edges) runs
-      (all_from (λ r. AllByRecursion (λ o. IsOwn (list_of o)) (steps_of_run s.edges r)) runs (λ i r e. all_mapped IsOwn list_of (steps_of_run s.edges r) (run_own s.edges r all))))
-
   uses_own : (s : MinState) → StateFits spec s → AllByRecursion IsOwn (uses_of s)
-  uses_own s f = (own s.from f.from, (own s.to f.to, (own s.eof f.eof, (own s.error f.error, (own s.token f.token, steps_own s f.edges (ordered_of s))))))
+  uses_own s f = (own s.from f.from, (own s.to f.to, (own s.eof f.eof, (own s.error f.error, (own s.token f.token, steps_all IsOwn tt (EdgeFits spec) (λ e f. own e.list f.actions) s f.edges)))))
 
   -- each action that has a number is one of the Spec's
   pub order_own : AllByRecursion (IsNumber (length spec.actions)) (order_of (lists_of m.states))
-  order_own = members_all (IsNumber (length spec.actions)) (lists_of m.states) []
-      (uses_all IsOwn m.states [] (all_more (StateFits spec) (λ s. AllByRecursion IsOwn (uses_of s)) m.states uses_own (recursion_from_All (StateFits spec) m.states fits.states)) tt) tt
+  order_own = order_all (IsNumber (length spec.actions)) m.states (all_more (StateFits spec) (λ s. AllByRecursion IsOwn (uses_of s)) m.states uses_own (recursion_from_All (StateFits spec) m.states fits.states))

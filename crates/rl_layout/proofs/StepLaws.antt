@@ -14,19 +14,22 @@ use Rattle.rl_model.specs.declared.spec.Spec.{Spec}
 use Rattle.rl_arrays.specs.declared.arrays.Arrays.{Arrays}
 use Rattle.rl_arrays.specs.Words.{natural, number_at}
 use Rattle.rl_arrays.specs.Lists.{members}
-use Rattle.rl_arrays.specs.TableMachine.{range_of, single_keys, range_ends, cell_within, asked_bits, entry_number, step_of, asked, entry_of}
+use Rattle.rl_arrays.specs.Shared.{Cell as SharedCell, shared, cell_number, places_from}
+use Rattle.rl_arrays.specs.TableMachine.{range_of, single_keys, range_ends, cell_within, cell_used, asked_bits, entry_number, step_of, asked, entry_of}
 use Rattle.rl_minimal.specs.declared.state.MinEdge.{MinEdge}
 use Rattle.rl_minimal.specs.declared.state.MinState.{MinState}
 use Rattle.rl_minimal.specs.Minimal.{Minimal, numbers}
 use Rattle.rl_layout.specs.declared.runs.Run.{Run}
 use Rattle.rl_layout.specs.Runs.{edges_of, laid_of, runs_of, is_single}
-use Rattle.rl_layout.specs.Cells.{ordered_of, keys_of, key_count, cell_count, asks_of, entry_count, edge_at, steps_of_run, steps_of, target_of, offsets, asks_in, entry_counts}
+use Rattle.rl_layout.specs.Cells.{ordered_of, keys_of, key_count, cell_count, asks_of, entry_count, edge_at, steps_of_run, steps_of, target_of, offsets}
 use Rattle.rl_layout.specs.Books.{list_of, place_in, number_in}
+use Rattle.rl_layout.specs.Shares.{leads, cell_of, cells_used}
 use Rattle.rl_layout.specs.Layout.{arrays_laid}
 use Rattle.rl_layout.proofs.ListLaws.{front_get, made_get, to_filter, all_from}
 use Rattle.rl_layout.proofs.FoundLaws.{ends_of, low_of, Finds, finds_single, finds_range, finds_either}
 use Rattle.rl_layout.proofs.BookLaws.{listed, list_shown}
-use Rattle.rl_layout.proofs.Segments.{begins, behind_of, segment, in_segment, front_part, back_part, offset_at, map_map, flat_map_map, map_flat_map, flat_map_flat_map}
+use Rattle.rl_layout.proofs.Segments.{begins, behind_of, segment, in_segment, front_part, back_part, offset_at, map_map, begins_map, flat_map_map, map_flat_map, flat_map_flat_map}
+use Rattle.rl_layout.proofs.ShareLaws.{shared_there, entries_in, place_at}
 use Rattle.rl_layout.proofs.SpecLaws.{number_is}
 
 -- ---- cells
@@ -54,6 +57,13 @@ steps_in c = steps_of_run c.edges c.run
 -- what is made of each run of each state is made of each cell
 pub cells_map : {Y : Type 0} → (g : Cell → Y) (states : List MinState) → flat_map (λ s. map (λ r. g (cell s r)) (ordered_of s)) states ≡ map g (all_cells states)
 cells_map g states = sym (map_flat_map g cells_in states ∙ (λ i. flat_map (λ s. map_map g (cell s) (ordered_of s) i) states))
+
+-- the cells that are used, as values
+abbrev pub value : List (List ActionId) → Cell → SharedCell
+value lists c = cell_of lists c.edges c.run
+
+pub used_are : (lists : List (List ActionId)) (states : List MinState) → cells_used lists states ≡ map (value lists) (all_cells states)
+used_are lists states = cells_map (value lists) states
 
 pub cells_flat_map : {Y : Type 0} → (g : Cell → List Y) (states : List MinState) → flat_map (λ s. flat_map (λ r. g (cell s r)) (ordered_of s)) states ≡ flat_map g (all_cells states)
 cells_flat_map g states = sym (flat_map_flat_map g cells_in states ∙ (λ i. flat_map (λ s. flat_map_map g (cell s) (ordered_of s) i) states))
@@ -91,6 +101,13 @@ key_count_is s =
 module _ (spec : Spec) (lists : List (List ActionId)) (order : List ℕ) (m : Minimal) where
   abbrev pub a : Arrays
   a = arrays_laid spec lists order m
+
+  -- the cells of all keys, and those that are stored
+  abbrev pub used : List SharedCell
+  used = cells_used lists m.states
+
+  abbrev pub kept : List SharedCell
+  kept = shared used
 
   -- nothing is found in a state that is none
   pub no_state : (q : ℕ) (key : ℤ) → slice_get m.states q ≡ None → cell_within a q key ≡ None
@@ -153,34 +170,73 @@ module _ (spec : Spec) (lists : List (List ActionId)) (order : List ℕ) (m : Mi
       cell_offset : number_at a.cell_offsets q + i ≡ place
       cell_offset = ap (λ n. n + i) ((λ j. number_at (offsets 0 (map (λ z. count_is z j) m.states)) q) ∙ offset_number cells_in m.states q s there)
 
-      asks_there : number_at a.cell_asks place ≡ asks_of s.edges r
-      asks_there = number_is a.cell_asks place (pos (asks_of s.edges r)) (front_get (flat_map asks_in m.states) (pos 0 ∷ []) place (pos (asks_of s.edges r))
-          (ap (λ w. slice_get w place) (cells_map (λ c. pos (asked_in c)) m.states) ∙ slice_get-map (λ c. pos (asked_in c)) (all_cells m.states) place ∙ ap (option_map (λ c. pos (asked_in c))) cell_there))
+      -- ---- its shared cell
 
-      entries_there : number_at a.cell_entries place ≡ begins steps_in (all_cells m.states) place
-      entries_there = number_is a.cell_entries place (pos (begins steps_in (all_cells m.states) place)) (front_get (offsets 0 (flat_map entry_counts m.states)) (pos 0 ∷ []) place (pos (begins steps_in (all_cells m.states) place)) (
-          ap (λ w. slice_get (offsets 0 w) place) (cells_map (λ c. entry_count c.edges c.run) m.states ∙ (λ j. map (λ c. steps_count c j) (all_cells m.states)))
-          ∙ offset_at steps_in (all_cells m.states) 0 place (cell s r) cell_there ∙ ap (λ n. Some (pos n)) none
-          ))
+      abbrev laid : SharedCell
+      laid = cell_of lists s.edges r
+
+      abbrev pub number : ℕ
+      number = cell_number kept laid
+
+      abbrev pub edge : ℕ → Option MinEdge
+      edge j = edge_at (asks_of s.edges r) j (edges_of s.edges r)
+
+      used_there : slice_get used place ≡ Some laid
+      used_there = ap (λ w. slice_get w place) (used_are lists m.states) ∙ slice_get-map (value lists) (all_cells m.states) place ∙ ap (option_map (value lists)) cell_there
+
+      kept_there : slice_get kept number ≡ Some laid
+      kept_there = shared_there used place laid used_there
+
+      use_there : cell_used a (number_at a.cell_offsets q + i) ≡ number
+      use_there =
+          ap (number_at a.cell_uses) cell_offset
+          ∙ number_is a.cell_uses place (pos number) (front_get (map (λ c. pos (cell_number kept c)) used) (pos 0 ∷ []) place (pos number)
+          (slice_get-map (λ c. pos (cell_number kept c)) used place ∙ ap (option_map (λ c. pos (cell_number kept c))) used_there))
+
+      asks_there : number_at a.cell_asks number ≡ asks_of s.edges r
+      asks_there = number_is a.cell_asks number (pos (asks_of s.edges r)) (front_get (map (λ (c : SharedCell). pos c.asks) kept) (pos 0 ∷ []) number (pos (asks_of s.edges r))
+          (slice_get-map (λ (c : SharedCell). pos c.asks) kept number ∙ ap (option_map (λ (c : SharedCell). pos c.asks)) kept_there))
+
+      entries_there : number_at a.cell_entries number ≡ begins entries_in kept number
+      entries_there = number_is a.cell_entries number (pos (begins entries_in kept number))
+          (front_get (places_from 0 kept) (pos 0 ∷ []) number (pos (begins entries_in kept number)) (place_at kept 0 number laid kept_there ∙ ap (λ n. Some (pos n)) none))
         where
-          none : 0 + begins steps_in (all_cells m.states) place ≡ begins steps_in (all_cells m.states) place
+          none : 0 + begins entries_in kept number ≡ begins entries_in kept number
           none = omega arith
 
-      pub step_there : (j : ℕ) → j < entry_count s.edges r → slice_get (flat_map steps_of m.states) (begins steps_in (all_cells m.states) place + j) ≡ Some (edge_at (asks_of s.edges r) j (edges_of s.edges r))
+      entry_at : (j : ℕ) → j < entry_count s.edges r → slice_get (entries_in laid) j ≡ Some (leads lists (edge j))
+      entry_at j l = let none : 0 + j ≡ j = omega arith in made_get (λ j. leads lists (edge j)) 0 (entry_count s.edges r) j l ∙ ap (λ n. Some (leads lists (edge n))) none
+
+      -- what an array by entry has at an entry of the cell
+      by_entry : (g : ℕ × ℕ → ℤ) (j : ℕ) → j < entry_count s.edges r
+          → slice_get (flat_map (λ c. map g (entries_in c)) kept ++ pos 0 ∷ []) (begins entries_in kept number + j) ≡ Some (g (leads lists (edge j)))
+      by_entry g j l = front_get (flat_map (λ c. map g (entries_in c)) kept) (pos 0 ∷ []) (begins entries_in kept number + j) (g (leads lists (edge j))) (
+          ap (λ n. slice_get (flat_map (λ c. map g (entries_in c)) kept) (n + j)) (sym (begins_map g entries_in kept number))
+          ∙ in_segment (λ c. map g (entries_in c)) kept number j laid (g (leads lists (edge j))) kept_there (slice_get-map g (entries_in laid) j ∙ ap (option_map g) (entry_at j l))
+          )
+
+      pub target_there : (j : ℕ) → j < entry_count s.edges r → number_at a.trans_targs (begins entries_in kept number + j) ≡ target_of (edge j)
+      target_there j l = number_is a.trans_targs (begins entries_in kept number + j) (pos (target_of (edge j))) (by_entry (λ e. pos e.0) j l)
+
+      pub list_there : (j : ℕ) → j < entry_count s.edges r → number_at a.trans_lists (begins entries_in kept number + j) ≡ place_in lists (list_of (edge j))
+      list_there j l = number_is a.trans_lists (begins entries_in kept number + j) (pos (place_in lists (list_of (edge j)))) (by_entry (λ e. pos e.1) j l)
+
+      -- it is a step of the machine
+      pub step_there : (j : ℕ) → j < entry_count s.edges r → slice_get (flat_map steps_of m.states) (begins steps_in (all_cells m.states) place + j) ≡ Some (edge j)
       step_there j l =
           let none : 0 + j ≡ j = omega arith in
           ap (λ w. slice_get w (begins steps_in (all_cells m.states) place + j)) (cells_flat_map steps_in m.states)
-          ∙ in_segment steps_in (all_cells m.states) place j (cell s r) (edge_at (asks_of s.edges r) j (edges_of s.edges r)) cell_there
-          (made_get (λ j. edge_at (asks_of s.edges r) j (edges_of s.edges r)) 0 (entry_count s.edges r) j l ∙ ap (λ n. Some (edge_at (asks_of s.edges r) n (edges_of s.edges r))) none)
+          ∙ in_segment steps_in (all_cells m.states) place j (cell s r) (edge j) cell_there (made_get edge 0 (entry_count s.edges r) j l ∙ ap (λ n. Some (edge n)) none)
 
       -- what is asked there, and the entry of the conditions that hold
       pub asked_there : (key : ℤ) → cell_within a q key ≡ Some i → asked a q key ≡ asks_of s.edges r
-      asked_there key e = ap (λ o. option_map_or (λ c. number_at a.cell_asks c) (option_map (λ c. number_at a.cell_offsets q + c) o) 0) e ∙ ap (number_at a.cell_asks) cell_offset ∙ asks_there
+      asked_there key e =
+          ap (λ o. option_map_or (λ c. number_at a.cell_asks c) (option_map (λ c. cell_used a (number_at a.cell_offsets q + c)) o) 0) e ∙ ap (number_at a.cell_asks) use_there ∙ asks_there
 
-      pub entry_there : (key : ℤ) (hold : ℕ) → cell_within a q key ≡ Some i → entry_of a q key hold ≡ Some (begins steps_in (all_cells m.states) place + entry_number (asked_bits (asks_of s.edges r)) hold)
+      pub entry_there : (key : ℤ) (hold : ℕ) → cell_within a q key ≡ Some i → entry_of a q key hold ≡ Some (begins entries_in kept number + entry_number (asked_bits (asks_of s.edges r)) hold)
       entry_there key hold e =
-          ap (λ o. option_map (λ c. number_at a.cell_entries c + entry_number (asked_bits (number_at a.cell_asks c)) hold) (option_map (λ c. number_at a.cell_offsets q + c) o)) e
-          ∙ ap (λ c. Some (number_at a.cell_entries c + entry_number (asked_bits (number_at a.cell_asks c)) hold)) cell_offset
+          ap (λ o. option_map (λ c. number_at a.cell_entries c + entry_number (asked_bits (number_at a.cell_asks c)) hold) (option_map (λ c. cell_used a (number_at a.cell_offsets q + c)) o)) e
+          ∙ ap (λ c. Some (number_at a.cell_entries c + entry_number (asked_bits (number_at a.cell_asks c)) hold)) use_there
           ∙ (λ j. Some (entries_there j + entry_number (asked_bits (asks_there j)) hold))
 
   -- ---- one entry
@@ -197,15 +253,10 @@ module _ (spec : Spec) (lists : List (List ActionId)) (order : List ℕ) (m : Mi
   MayBeStep None = Unit {0}
   MayBeStep (Some e) = IsStep e
 
-  pub step_is : (n : ℕ) (o : Option MinEdge) → slice_get (flat_map steps_of m.states) n ≡ Some o → MayBeStep o → step_of a n ≡ option_map go_laid o
-  step_is n o e p = (λ i. cond (nat_eq (target i) 0) None (Some (record { target = target i; list = members a.actions (place i) }))) ∙ by o p
+  pub step_is : (n : ℕ) (o : Option MinEdge) → number_at a.trans_targs n ≡ target_of o → number_at a.trans_lists n ≡ place_in lists (list_of o)
+      → MayBeStep o → step_of a n ≡ option_map go_laid o
+  step_is n o target place p = (λ i. cond (nat_eq (target i) 0) None (Some (record { target = target i; list = members a.actions (place i) }))) ∙ by o p
     where
-      target : number_at a.trans_targs n ≡ target_of o
-      target = number_is a.trans_targs n (pos (target_of o)) (front_get (map (λ s. pos (target_of s)) (flat_map steps_of m.states)) (pos 0 ∷ []) n (pos (target_of o)) (slice_get-map (λ s. pos (target_of s)) (flat_map steps_of m.states) n ∙ ap (option_map (λ s. pos (target_of s))) e))
-
-      place : number_at a.trans_lists n ≡ place_in lists (list_of o)
-      place = number_is a.trans_lists n (pos (place_in lists (list_of o))) (front_get (map (λ s. pos (place_in lists (list_of s))) (flat_map steps_of m.states)) (pos 0 ∷ []) n (pos (place_in lists (list_of o))) (slice_get-map (λ s. pos (place_in lists (list_of s))) (flat_map steps_of m.states) n ∙ ap (option_map (λ s. pos (place_in lists (list_of s)))) e))
-
       by : (o : Option MinEdge) → MayBeStep o → cond (nat_eq (target_of o) 0) None (Some (record { target = target_of o; list = members a.actions (place_in lists (list_of o)) })) ≡ option_map go_laid o
       by None p = refl
       by (Some x) p =

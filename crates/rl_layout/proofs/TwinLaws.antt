@@ -9,13 +9,13 @@ use Rattle.rl_types.specs.declared.numbers.ActionId.{ActionId}
 use Rattle.rl_types.specs.declared.numbers.Key.{Key}
 use Rattle.rl_types.specs.Alphabet.{width_of, key_of}
 use Rattle.rl_fsm.specs.Reads.{asks_at}
-use Rattle.rl_run.specs.Machine.{Machine}
+use Rattle.rl_run.specs.Machine.{Go, Machine}
 use Rattle.rl_run.specs.Twin.{Agrees, ListR, GoR, IsTwin}
 use Rattle.rl_arrays.specs.declared.arrays.Arrays.{Arrays}
 use Rattle.rl_arrays.specs.Words.{natural, number_at}
 use Rattle.rl_arrays.specs.Lists.{members}
 use Rattle.rl_arrays.specs.Statements.{statement}
-use Rattle.rl_arrays.specs.TableMachine.{machine, name_at, asked_bits, entry_number, step_of, entry_of, asked, cell_within}
+use Rattle.rl_arrays.specs.TableMachine.{machine, name_at, asked_bits, entry_number, step_of, entry_of, asked, cell_within, cell_used}
 use Rattle.rl_arrays.specs.TableMachine as tables
 use Rattle.rl_model.specs.declared.spec.ActionDef.{ActionDef}
 use Rattle.rl_model.specs.declared.spec.Spec.{Spec}
@@ -42,7 +42,7 @@ use Rattle.rl_layout.proofs.MergeLaws.{runs_right, runs_cover}
 use Rattle.rl_layout.proofs.FoundLaws.{Finds, held_halves}
 use Rattle.rl_layout.proofs.BookLaws.{listed, lists_listed, steps_listed, list_shown, has_number, actions_numbered, numbered_place}
 use Rattle.rl_layout.proofs.SpecLaws.{number_is, alphabet_is, action_named, condition_named, entry_named, entry_state, IsPlain, by_number, statements_told, all_plain}
-use Rattle.rl_layout.proofs.StepLaws.{no_state, found, asked_there, entry_there, step_there, number_none, MayBeStep, go_laid, step_is}
+use Rattle.rl_layout.proofs.StepLaws.{no_state, found, asked_there, entry_there, target_there, list_there, step_there, number_none, MayBeStep, go_laid, step_is}
 
 module _ (spec : Spec) (m : Minimal) (sound : IsMinimal m) (plain : AllByRecursion (λ (y : ActionDef). AllByRecursion IsPlain y.statements) spec.actions) where
   abbrev lists : List (List ActionId)
@@ -157,7 +157,7 @@ module _ (spec : Spec) (m : Minimal) (sound : IsMinimal m) (plain : AllByRecursi
     asked_at key = by (cell_within a q key) refl (found spec lists order m q s there key)
       where
         by : (o : Option ℕ) → cell_within a q key ≡ o → Finds key (ordered_of s) o → asked a q key ≡ asks_at key (map reads_of s.edges)
-        by None e f = ap (λ o. option_map_or (λ c. number_at a.cell_asks c) (option_map (λ c. number_at a.cell_offsets q + c) o) 0) e ∙ sym (asks_none key s.edges (outside key f))
+        by None e f = ap (λ o. option_map_or (λ c. number_at a.cell_asks c) (option_map (λ c. cell_used a (number_at a.cell_offsets q + c)) o) 0) e ∙ sym (asks_none key s.edges (outside key f))
         by (Some i) e f = asked_there spec lists order m q s there i f.0 f.1 key e ∙ sym ((all_at (IsRight s.edges) (ordered_of s) i f.0 all_right f.1).asks key f.2)
 
     -- the edge that is found is a step
@@ -181,26 +181,56 @@ module _ (spec : Spec) (m : Minimal) (sound : IsMinimal m) (plain : AllByRecursi
         by : (o : Option ℕ) → cell_within a q key.0 ≡ o → Finds key.0 (ordered_of s) o → GoR before shown renamed Same (option_map go_of (edge_for (letter_of key hold) s.edges)) (tables.find a q key.0 hold)
         by None e f =
             let here : tables.find a q key.0 hold ≡ None =
-            ap (λ o. option_and_then (step_of a) (option_map (λ c. number_at a.cell_entries c + entry_number (asked_bits (number_at a.cell_asks c)) hold) (option_map (λ c. number_at a.cell_offsets q + c) o))) e in
+            ap (λ o. option_and_then (step_of a) (option_map (λ c. number_at a.cell_entries c + entry_number (asked_bits (number_at a.cell_asks c)) hold) (option_map (λ c. cell_used a (number_at a.cell_offsets q + c)) o))) e in
             let none : edge_for (letter_of key hold) s.edges ≡ None = edge_none (letter_of key hold) s.edges (outside key.0 f) in
             subst (λ w. GoR before shown renamed Same (option_map go_of (edge_for (letter_of key hold) s.edges)) w) (sym here) (subst (λ w. GoR before shown renamed Same (option_map go_of w) None) (sym none) tt)
         by (Some i) e f =
             let right = all_at (IsRight s.edges) (ordered_of s) i f.0 all_right f.1 in
             let j = entry_number (asked_bits (asks_of s.edges f.0)) hold in
             let o = edge_at (asks_of s.edges f.0) j (edges_of s.edges f.0) in
-            let at = step_there spec lists order m q s there i f.0 f.1 j (entry_within (asks_of s.edges f.0) hold right.small) in
+            let less = entry_within (asks_of s.edges f.0) hold right.small in
+            let at = step_there spec lists order m q s there i f.0 f.1 j less in
             let step = is_step _ f.0 j o refl at in
             let here : tables.find a q key.0 hold ≡ option_map (go_laid spec lists order m) o =
-            ap (option_and_then (step_of a)) (entry_there spec lists order m q s there i f.0 f.1 key.0 hold e) ∙ step_is spec lists order m _ o at step in
+            ap (option_and_then (step_of a)) (entry_there spec lists order m q s there i f.0 f.1 key.0 hold e)
+            ∙ step_is spec lists order m _ o (target_there spec lists order m q s there i f.0 f.1 j less) (list_there spec lists order m q s there i f.0 f.1 j less) step in
             subst (λ w. GoR before shown renamed Same (option_map go_of (edge_for (letter_of key hold) s.edges)) w) (sym here)
             (subst (λ w. GoR before shown renamed Same w (option_map (go_laid spec lists order m) o)) (sym (right.step (letter_of key hold) f.2)) (go_twin o step))
+
+    -- the actions of the edge that is found have numbers
+    edge_numbered : (key : Key) (hold : ℕ) (x : MinEdge) → edge_for (letter_of key hold) s.edges ≡ Some x → AllByRecursion (λ n. has_number order n ≡ true) (numbers x.list)
+    edge_numbered key hold x e = by (cell_within a q key.0) (found spec lists order m q s there key.0)
+      where
+        of_step : (o : Option MinEdge) → listed lists (list_of o) ≡ true → option_map go_of o ≡ Some (go_of x) → AllByRecursion (λ n. has_number order n ≡ true) (numbers x.list)
+        of_step None l h = absurd cc
+        of_step (Some y) l h =
+            let same : go_of y ≡ go_of x = cc in
+            subst (AllByRecursion (λ n. has_number order n ≡ true)) (ap (λ (g : Go ℕ). g.list) same) (actions_numbered lists y.list l)
+
+        by : (o : Option ℕ) → Finds key.0 (ordered_of s) o → AllByRecursion (λ n. has_number order n ≡ true) (numbers x.list)
+        by None f = let none : edge_for (letter_of key hold) s.edges ≡ None = edge_none (letter_of key hold) s.edges (outside key.0 f) in absurd cc
+        by (Some i) f =
+            let right = all_at (IsRight s.edges) (ordered_of s) i f.0 all_right f.1 in
+            let j = entry_number (asked_bits (asks_of s.edges f.0)) hold in
+            let o = edge_at (asks_of s.edges f.0) j (edges_of s.edges f.0) in
+            let at = step_there spec lists order m q s there i f.0 f.1 j (entry_within (asks_of s.edges f.0) hold right.small) in
+            of_step o (all_at (λ o. listed lists (list_of o) ≡ true) (flat_map steps_of m.states) _ o (steps_listed m.states) at)
+            (sym (right.step (letter_of key hold) f.2) ∙ ap (option_map go_of) e)
+
+  pub found_numbered : (q : ℕ) (key : Key) (hold : ℕ) (x : MinEdge) → edge_for (letter_of key hold) (edges_at m q) ≡ Some x → AllByRecursion (λ n. has_number order n ≡ true) (numbers x.list)
+  found_numbered q key hold x e = by (slice_get m.states q) refl e
+    where
+      by : (o : Option MinState) → slice_get m.states q ≡ o → edge_for (letter_of key hold) (option_map_or (λ (s : MinState). s.edges) o []) ≡ Some x
+          → AllByRecursion (λ n. has_number order n ≡ true) (numbers x.list)
+      by None h f = absurd cc
+      by (Some s) h f = edge_numbered q s h key hold x f
 
   asked_twin : (q : ℕ) (key : ℤ) → asked a q key ≡ asks_at key (map reads_of (edges_at m q))
   asked_twin q key = by (slice_get m.states q) refl
     where
       by : (o : Option MinState) → slice_get m.states q ≡ o → asked a q key ≡ asks_at key (map reads_of (edges_at m q))
       by None e =
-          ap (λ o. option_map_or (λ c. number_at a.cell_asks c) (option_map (λ c. number_at a.cell_offsets q + c) o) 0) (no_state spec lists order m q key e)
+          ap (λ o. option_map_or (λ c. number_at a.cell_asks c) (option_map (λ c. cell_used a (number_at a.cell_offsets q + c)) o) 0) (no_state spec lists order m q key e)
           ∙ sym (ap (λ o. asks_at key (map reads_of (option_map_or (λ (s : MinState). s.edges) o []))) e)
       by (Some s) e = asked_at q s e key ∙ sym (ap (λ w. asks_at key (map reads_of w)) (edges_are q s e))
 
@@ -210,7 +240,7 @@ module _ (spec : Spec) (m : Minimal) (sound : IsMinimal m) (plain : AllByRecursi
       by : (o : Option MinState) → slice_get m.states q ≡ o → GoR before shown renamed Same (option_map go_of (edge_for (letter_of key hold) (edges_at m q))) (tables.find a q key.0 hold)
       by None e =
           let here : tables.find a q key.0 hold ≡ None =
-          ap (λ o. option_and_then (step_of a) (option_map (λ c. number_at a.cell_entries c + entry_number (asked_bits (number_at a.cell_asks c)) hold) (option_map (λ c. number_at a.cell_offsets q + c) o))) (no_state spec lists order m q key.0 e) in
+          ap (λ o. option_and_then (step_of a) (option_map (λ c. number_at a.cell_entries c + entry_number (asked_bits (number_at a.cell_asks c)) hold) (option_map (λ c. cell_used a (number_at a.cell_offsets q + c)) o))) (no_state spec lists order m q key.0 e) in
           subst (λ w. GoR before shown renamed Same (option_map go_of (edge_for (letter_of key hold) (edges_at m q))) w) (sym here)
           (subst (λ w. GoR before shown renamed Same (option_map go_of (edge_for (letter_of key hold) w)) None) (sym (ap (λ o. option_map_or (λ (s : MinState). s.edges) o []) e)) tt)
       by (Some s) e = subst (λ w. GoR before shown renamed Same (option_map go_of (edge_for (letter_of key hold) w)) (tables.find a q key.0 hold)) (sym (edges_are q s e)) (find_twin q s e key hold)

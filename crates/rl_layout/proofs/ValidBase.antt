@@ -114,10 +114,6 @@ module _ (spec : Spec) (lists : List (List ActionId)) (order : List ℕ) (m : Mi
   key_offsets_right = right_of a the.KeyOffsets (bounded (length a.key_offsets) (let n = states_are in let c = sound.counts.states in omega (arith, n, c)) (let n = states_are in let c = sound.counts.few in omega (arith, n, c)))
       (λ i. if_at a.key_offsets i (IsSum (sizes.keys_of a) i) (λ x e. offset_says (sizes.keys_of a) keys_of key_widths i x (sym (λ j. slice_get (offsets 0 (map (λ z. key_count_is z j) m.states)) i) ∙ e)))
 
-  -- version 1 has no uses
-  pub cell_uses_right : FirstWrong a the.CellUses None
-  cell_uses_right = right_of a the.CellUses refl (λ i. tt)
-
   pub cell_offsets_right : FirstWrong a the.CellOffsets None
   cell_offsets_right = right_of a the.CellOffsets (states_are ∙ sym (length_offsets 0 (map cell_count m.states) ∙ length-map m.states cell_count))
       (λ i. if_at a.cell_offsets i (IsSum (sizes.uses_of a) i) (λ x e. offset_says (sizes.uses_of a) cells_in cell_widths i x (sym (λ j. slice_get (offsets 0 (map (λ z. count_is z j) m.states)) i) ∙ e)))

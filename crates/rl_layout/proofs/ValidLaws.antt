@@ -10,9 +10,9 @@ use Rattle.rl_minimal.specs.Sound.{IsMinimal}
 use Rattle.rl_layout.specs.Books.{lists_of, order_of}
 use Rattle.rl_layout.specs.Layout.{arrays_laid, arrays_of}
 use Rattle.rl_layout.specs.Fits.{Fits}
-use Rattle.rl_layout.proofs.ValidBase.{key_offsets_right, cell_offsets_right, cell_uses_right, single_lengths_right, range_lengths_right, kinds_right, homes_right, le_pos}
+use Rattle.rl_layout.proofs.ValidBase.{key_offsets_right, cell_offsets_right, single_lengths_right, range_lengths_right, kinds_right, homes_right, le_pos}
 use Rattle.rl_layout.proofs.ValidLists.{actions_right, from_right, to_right, eof_right, error_right, token_right}
-use Rattle.rl_layout.proofs.ValidCells.{asks_right, cell_entries_right, targets_right, step_lists_right}
+use Rattle.rl_layout.proofs.ValidCells.{cell_uses_right, asks_right, cell_entries_right, targets_right, step_lists_right}
 use Rattle.rl_layout.proofs.ValidNames.{action_names_right, cond_names_right, entry_names_right, entry_states_right}
 use Rattle.rl_layout.proofs.ValidStatements as statements
 use Rattle.rl_layout.proofs.ValidKeys.{keys_right}
@@ -25,7 +25,7 @@ module _ (spec : Spec) (m : Minimal) (sound : IsMinimal m) (well : IsWellFormed 
   each the.SingleLengths = single_lengths_right spec (lists_of m.states) (order_of (lists_of m.states)) m sound
   each the.RangeLengths = range_lengths_right spec (lists_of m.states) (order_of (lists_of m.states)) m sound
   each the.CellOffsets = cell_offsets_right spec (lists_of m.states) (order_of (lists_of m.states)) m sound
-  each the.CellUses = cell_uses_right spec (lists_of m.states) (order_of (lists_of m.states)) m sound
+  each the.CellUses = cell_uses_right spec m sound fits
   each the.CellAsks = asks_right spec m sound fits
   each the.CellEntries = cell_entries_right spec m sound fits
   each the.TransTargs = targets_right spec m sound fits
@@ -49,7 +49,7 @@ module _ (spec : Spec) (m : Minimal) (sound : IsMinimal m) (well : IsWellFormed 
   each the.EntryStates = entry_states_right spec m sound well fits
 
   version : IsVersioned (arrays_laid spec (lists_of m.states) (order_of (lists_of m.states)) m)
-  version = (le_pos 1 1 (omega arith), le_pos 1 2 (omega arith))
+  version = (le_pos 1 2 (omega arith), le_pos 2 2 (omega arith))
 
   pub arrays_valid : Valid (arrays_of spec m)
   unfolding arrays_of

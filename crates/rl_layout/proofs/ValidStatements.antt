@@ -39,19 +39,19 @@ use Rattle.rl_minimal.specs.Minimal.{Minimal, numbers}
 use Rattle.rl_minimal.specs.Sound.{IsMinimal}
 use Rattle.rl_layout.specs.declared.statements.StatementArray.TheVariants as of
 use Rattle.rl_layout.specs.Runs.{edges_of}
-use Rattle.rl_layout.specs.Cells.{asks_of, steps_of, offsets}
+use Rattle.rl_layout.specs.Cells.{asks_of, edge_at, offsets}
 use Rattle.rl_layout.specs.Books.{list_of, lists_of, uses_of, place_in, order_of, number_in}
 use Rattle.rl_layout.specs.SpecArrays.{statements_of, kind_number, base_number, element_of, name_of}
 use Rattle.rl_layout.specs.Layout.{arrays_laid}
 use Rattle.rl_layout.specs.Fits.{Fits, StateFits, AreQuiet}
 use Rattle.rl_layout.proofs.ListLaws.{all_at, found_all}
-use Rattle.rl_layout.proofs.BookLaws.{listed, lists_listed, steps_listed, list_shown, has_number, actions_numbered, numbered_place}
+use Rattle.rl_layout.proofs.BookLaws.{listed, lists_listed, list_shown, has_number, actions_numbered, numbered_place}
 use Rattle.rl_layout.proofs.Segments.{begins, behind_of, segment, in_segment, offset_at, begins_map, map_flat_map, flat_map_map}
 use Rattle.rl_layout.proofs.SumLaws.{AreLengths, sum_is, begins_all, element}
 use Rattle.rl_layout.proofs.SpecLaws.{number_is, numbered-map, same_kind, all_in_actions, of_action}
 use Rattle.rl_layout.proofs.PlaceLaws.{stands_in}
 use Rattle.rl_layout.proofs.ValidBase.{length_offsets, at_map, if_at, right_of, not_negative, le_pos, lt_pos, kind_has}
-use Rattle.rl_layout.proofs.ValidCells.{data_of, StepOf, step_of_state, not_of_state, of_run}
+use Rattle.rl_layout.proofs.ValidCells.{data_of, entries as stored_entries, StepOf, step_of_state, list_listed, not_of_state, entry_of_element, of_run}
 
 begins_of_map : {X Y Z : Type 0} → (f : Y → List Z) (g : X → Y) (xs : List X) (i : ℕ) → begins f (map g xs) i ≡ begins (λ x. f (g x)) xs i
 begins_of_map f g [] i = refl
@@ -314,24 +314,25 @@ module _ (spec : Spec) (m : Minimal) (sound : IsMinimal m) (well : IsWellFormed 
 
   -- lists of steps from a scanner's states
   quiet_step : (i n : ℕ) → slice_get order i ≡ Some n → (q e : ℕ) → IsEntryOf a q e → HasKind a q 1 3 → IsListed a a.trans_lists e (suc i) → own n ≡ []
-  quiet_step i n there q e entry kind h = by (data_of (map (λ o. pos (place_in lists (list_of o))) (flat_map steps_of m.states)) e b.0 (pos 0) b.1)
+  quiet_step i n there q e entry kind h = by (entry_of_element spec m sound fits (λ z. pos z.1) e b.0 b.1)
     where
       b : (x : ℤ) × (slice_get a.trans_lists e ≡ Some x) × Contains (members a.actions (natural x)) (suc i)
       b = at_some a.trans_lists e (λ number. Contains (members a.actions (natural number)) (suc i)) h
 
-      quiet_of : (o : Option MinEdge) (s : StepOf spec m sound fits q o) → AreQuiet spec (list_of o)
-      quiet_of None s = λ k d l. absurd (omega arith)
-      quiet_of (Some x) s =
+      quiet_of : (z : ℕ × ℕ) (s : StepOf spec m sound fits q z) (o : Option MinEdge) → edge_at (asks_of s.state.edges s.run) s.number (edges_of s.state.edges s.run) ≡ o → AreQuiet spec (list_of o)
+      quiet_of z s None t = λ k d l. absurd (omega arith)
+      quiet_of z s (Some x) t =
           let k = kind_has spec lists order m sound q s.state 1 3 s.there kind in
           found_all (λ (e : MinEdge). AreQuiet spec e.list) (λ (e : MinEdge). nat_eq (entry_number (asked_bits (asks_of s.state.edges s.run)) e.truths.0) s.number) (edges_of s.state.edges s.run) x
-          (of_run spec m sound fits (λ (e : MinEdge). AreQuiet spec e.list) s.state.edges s.run ((fits_at q s.state s.there).quiet_steps (omega (arith, k)))) (sym s.is)
+          (of_run spec m sound fits (λ (e : MinEdge). AreQuiet spec e.list) s.state.edges s.run ((fits_at q s.state s.there).quiet_steps (omega (arith, k)))) t
 
-      by : (slice_get (map (λ o. pos (place_in lists (list_of o))) (flat_map steps_of m.states)) e ≡ Some b.0) ⊎ ((e ≡ length (map (λ o. pos (place_in lists (list_of o))) (flat_map steps_of m.states))) × (b.0 ≡ pos 0)) → own n ≡ []
-      by (inr k) = absurd (not_of_state spec m sound fits q e (k.0 ∙ length-map (flat_map steps_of m.states) (λ o. pos (place_in lists (list_of o)))) entry)
-      by (inl k) =
-          let p = at_map (λ o. pos (place_in lists (list_of o))) (flat_map steps_of m.states) e b.0 k in
+      by : ((z : ℕ × ℕ) × (slice_get (stored_entries spec m sound fits) e ≡ Some z) × (b.0 ≡ pos z.1)) ⊎ ((e ≡ length (stored_entries spec m sound fits)) × (b.0 ≡ pos 0)) → own n ≡ []
+      by (inr k) = absurd (not_of_state spec m sound fits q e k.0 entry)
+      by (inl p) =
           let s = step_of_state spec m sound fits q e p.0 p.1 entry in
-          quiet_list (list_of p.0) i n (all_at (λ o. listed lists (list_of o) ≡ true) (flat_map steps_of m.states) e p.0 (steps_listed m.states) p.1) (quiet_of p.0 s) there (subst (λ w. Contains (members a.actions (natural w)) (suc i)) p.2 b.2)
+          let o = edge_at (asks_of s.state.edges s.run) s.number (edges_of s.state.edges s.run) in
+          let number : b.0 ≡ pos (place_in lists (list_of o)) = p.2 ∙ ap (λ (z : ℕ × ℕ). pos z.1) s.is in
+          quiet_list (list_of o) i n (list_listed spec m sound fits q p.0 s) (quiet_of p.0 s o refl) there (subst (λ w. Contains (members a.actions (natural w)) (suc i)) number b.2)
 
   -- the statements that stand from an action's first one on
   taken : (f : Statement → ℤ) (i n : ℕ) → slice_get order i ≡ Some n → take (count n) (drop (1 + begins own order i) (pos 0 ∷ flat_map (λ n. map f (own n)) order)) ≡ map f (own n)

@@ -59,10 +59,3 @@ target_of (Some e) = e.target
 abbrev pub offsets : ℕ → List ℕ → List ℤ
 offsets place [] = []
 offsets place (n ∷ ns) = pos place ∷ offsets (place + n) ns
-
--- the asked conditions of a state's cells, and how many entries each has
-abbrev pub asks_in : MinState → List ℤ
-asks_in s = map (λ r. pos (asks_of s.edges r)) (ordered_of s)
-
-abbrev pub entry_counts : MinState → List ℕ
-entry_counts s = map (entry_count s.edges) (ordered_of s)

@@ -17,8 +17,9 @@ use Rattle.rl_layout.specs.declared.lay.Ends.{Ends}
 use Rattle.rl_layout.specs.declared.states.StateArray.TheVariants as by
 use Rattle.rl_layout.specs.declared.statements.StatementArray.TheVariants as of
 use Rattle.rl_layout.specs.Runs.{laid_of}
-use Rattle.rl_layout.specs.Cells.{keys_of, key_count, cell_count, asks_in, entry_counts, steps_of, target_of, offsets}
-use Rattle.rl_layout.specs.Books.{list_of, lists_of, place_in, order_of, actions_of}
+use Rattle.rl_layout.specs.Cells.{keys_of, key_count, cell_count, offsets}
+use Rattle.rl_layout.specs.Books.{lists_of, order_of, actions_of}
+use Rattle.rl_layout.specs.Shares.{cells_used, stored}
 use Rattle.rl_layout.specs.StateArrays.{value_of}
 use Rattle.rl_layout.specs.SpecArrays.{statements_of, name_of, element_of, alphabet_number, start_of}
 
@@ -31,13 +32,9 @@ keys_laid states = record {
 }
 
 abbrev pub cells_laid : List (List ActionId) → List MinState → Cells
-cells_laid lists states = record {
-  offsets = offsets 0 (map cell_count states);
-  asks = flat_map asks_in states ++ pos 0 ∷ [];
-  entries = offsets 0 (flat_map entry_counts states) ++ pos 0 ∷ [];
-  targets = map (λ s. pos (target_of s)) (flat_map steps_of states) ++ pos 0 ∷ [];
-  lists = map (λ s. pos (place_in lists (list_of s))) (flat_map steps_of states) ++ pos 0 ∷ [];
-}
+cells_laid lists states =
+    let own = stored (cells_used lists states) in
+    record { offsets = offsets 0 (map cell_count states); uses = own.uses; asks = own.asks; entries = own.entries; targets = own.targets; lists = own.lists }
 
 abbrev pub states_laid : List (List ActionId) → List MinState → States
 states_laid lists states = record {
@@ -78,7 +75,7 @@ ends_laid spec m = record {
 
 abbrev pub gathered : List ℤ → Ends → Names → Keys → Cells → States → Statements → Arrays
 gathered actions ends names keys cells states statements = record {
-  version = pos 1;
+  version = pos 2;
   name = names.machine;
   start = ends.start;
   first_final = ends.first_final;
@@ -89,7 +86,7 @@ gathered actions ends names keys cells states statements = record {
   single_lengths = keys.singles;
   range_lengths = keys.ranges;
   cell_offsets = cells.offsets;
-  cell_uses = [];
+  cell_uses = cells.uses;
   cell_asks = cells.asks;
   cell_entries = cells.entries;
   trans_targs = cells.targets;

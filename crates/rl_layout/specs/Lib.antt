@@ -2,6 +2,7 @@ pub mod Runs
 pub mod Cells
 pub mod Told
 pub mod Books
+pub mod Shares
 pub mod StateArrays
 pub mod SpecArrays
 pub mod Layout

@@ -39,8 +39,8 @@ fn add_list<'a>(lists: &mut Vec<&'a [ActionId]>, list: &'a [ActionId]) -> Result
     Ok(())
 }
 
-// The list of a step; empty where there is none.
-fn list_of<'a>(step: Option<&'a MinEdge>) -> &'a [ActionId]
+/// The list of a step; empty where there is none.
+pub(crate) fn list_of<'a>(step: Option<&'a MinEdge>) -> &'a [ActionId]
     ensures { result.now ≡ list_of (option_copied step.entry) }
 {
     match step {
@@ -108,13 +108,13 @@ fn place_behind(place: usize, count: usize) -> Result<usize, Memory>
 }
 
 // The place of a list, from 1.
-fn place_from(lists: &[&[ActionId]], list: &[ActionId]) -> Result<i64, Memory>
-    ensures { IfOk result (λ z. z ≡ pos (place_from 1 (told lists.now) list.now)) }
+fn place_from(lists: &[&[ActionId]], list: &[ActionId]) -> Result<usize, Memory>
+    ensures { IfOk result (λ n. n ≡ place_from 1 (told lists.now) list.now) }
 {
     let mut place: usize = 1;
     for l in lists {
         if same_actions(list, l) {
-            return number(place);
+            return Ok(place);
         }
         place = place_behind(place, l.len())?;
     }
@@ -122,30 +122,14 @@ fn place_from(lists: &[&[ActionId]], list: &[ActionId]) -> Result<i64, Memory>
 }
 
 /// The number of a list; the empty one has place 0.
-pub(crate) fn place_in(lists: &[&[ActionId]], list: &[ActionId]) -> Result<i64, Memory>
-    ensures { IfOk result (λ z. z ≡ pos (place_in (told lists.now) list.now)) }
+pub(crate) fn place_in(lists: &[&[ActionId]], list: &[ActionId]) -> Result<usize, Memory>
+    ensures { IfOk result (λ n. n ≡ place_in (told lists.now) list.now) }
 {
     if list.is_empty() {
         return Ok(0);
     }
     let place = place_from(lists, list)?;
     Ok(place)
-}
-
-/// The numbers of the lists of entries, and the closing element.
-pub(crate) fn step_lists(
-    alloc: Global,
-    lists: &[&[ActionId]],
-    steps: &[Option<&MinEdge>],
-) -> Result<Items<i64>, Memory>
-    ensures { IfOk result (λ v. v ≡ map (λ s. pos (place_in (told lists.now) (list_of s))) (map option_copied steps.now) ++ pos 0 ∷ []) }
-{
-    let mut numbers = Vec::new(alloc);
-    for step in steps {
-        push(&mut numbers, place_in(lists, list_of(*step))?)?;
-    }
-    push(&mut numbers, 0)?;
-    Ok(Items::from_vec(numbers))
 }
 
 // Adds an action, unless it is there.

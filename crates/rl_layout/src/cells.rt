@@ -3,7 +3,7 @@ ghost use Rattle.std.specs.Prelude.{◌≡◌, ◌<◌, ◌≤◌, ◌+◌, ◌*
 ghost use Rattle.std.specs.List.{filter, find, flat_map, range_with_len};
 ghost use Rattle.std.specs.Option.{option_copied};
 ghost use Rattle.rl_arrays.specs.TableMachine as machine;
-ghost use Rattle.rl_layout.specs.Cells.{ordered_of, keys_of, key_count, cell_count, asks_of, entry_count, edge_at, steps_of_run, steps_of, target_of, offsets, asks_in, entry_counts};
+ghost use Rattle.rl_layout.specs.Cells.{ordered_of, keys_of, key_count, cell_count, asks_of, entry_count, edge_at, steps_of_run, steps_of, offsets};
 
 use crate::lists::push;
 use crate::runs::{Run, edges_of, laid_of};
@@ -31,8 +31,8 @@ fn push_runs(runs: &mut Vec<Run>, more: &[Run]) -> Result<(), Memory>
     }
 }
 
-// The runs of a state in the order of its cells.
-fn ordered_of(alloc: Global, state: &MinState) -> Result<Vec<Run>, Memory>
+/// The runs of a state in the order of its cells.
+pub(crate) fn ordered_of(alloc: Global, state: &MinState) -> Result<Vec<Run>, Memory>
     ensures { IfOk result (λ v. v.items ≡ ordered_of state.now) }
 {
     let laid = laid_of(alloc, state)?;
@@ -113,8 +113,8 @@ pub(crate) fn offsets(alloc: Global, counts: &[usize]) -> Result<Vec<i64>, Memor
     Ok(places)
 }
 
-// The conditions that are asked at a run.
-fn asks_of(edges: &[MinEdge], run: &Run) -> u8
+/// The conditions that are asked at a run.
+pub(crate) fn asks_of(edges: &[MinEdge], run: &Run) -> u8
     ensures { result ≡ asks_of edges.now run.now }
 {
     match edges_of(edges, run) {
@@ -161,15 +161,15 @@ fn entry_number(asks: u8, hold: u8) -> usize
     number_among(&conditions, asks, hold)
 }
 
-// The edge whose truths have the number of an entry.
-fn edge_at(asks: u8, j: usize, edges: &[MinEdge]) -> Option<&MinEdge>
+/// The edge whose truths have the number of an entry.
+pub(crate) fn edge_at(asks: u8, j: usize, edges: &[MinEdge]) -> Option<&MinEdge>
     ensures { option_copied result ≡ edge_at asks j edges.now }
 {
     edges.iter().find(|e| entry_number(asks, e.truths.0) == j)
 }
 
-// How many entries the cell of a run has.
-fn entry_count(edges: &[MinEdge], run: &Run) -> usize
+/// How many entries the cell of a run has.
+pub(crate) fn entry_count(edges: &[MinEdge], run: &Run) -> usize
     ensures { result ≡ entry_count edges.now run.now }
 {
     1usize << asks_of(edges, run).count_ones()
@@ -217,79 +217,4 @@ pub(crate) fn steps_of<'a>(
     let mut steps = Vec::new(alloc);
     push_state_steps(alloc, &mut steps, state)?;
     Ok(steps)
-}
-
-/// The steps of all entries.
-pub(crate) fn all_steps<'a>(
-    alloc: Global,
-    states: &'a [MinState],
-) -> Result<Vec<Option<&'a MinEdge>>, Memory>
-    ensures { IfOk result (λ v. map option_copied v.items ≡ flat_map steps_of states.now) }
-{
-    let mut steps = Vec::new(alloc);
-    for state in states {
-        push_state_steps(alloc, &mut steps, state)?;
-    }
-    Ok(steps)
-}
-
-/// The targets of entries, and the closing element.
-pub(crate) fn targets(alloc: Global, steps: &[Option<&MinEdge>]) -> Result<List<i64>, Memory>
-    ensures { IfOk result (λ v. v ≡ map (λ s. pos (target_of s)) (map option_copied steps.now) ++ pos 0 ∷ []) }
-{
-    let mut targets = Vec::new(alloc);
-    for step in steps {
-        let target = match step {
-            Some(e) => e.target,
-            None => 0,
-        };
-        push(&mut targets, i64::from(target))?;
-    }
-    push(&mut targets, 0)?;
-    Ok(List::from_vec(targets))
-}
-
-// Puts the asked conditions of a state's cells at the end.
-fn push_asks(alloc: Global, asks: &mut Vec<i64>, state: &MinState) -> Result<(), Memory>
-    ensures { IfOk result (λ _. asks.new.items ≡ asks.old.items ++ asks_in state.now) }
-{
-    let runs = ordered_of(alloc, state)?;
-    for run in &runs {
-        push(asks, i64::from(asks_of(state.edges.as_slice(), run)))?;
-    }
-    Ok(())
-}
-
-/// The asked conditions of all cells, and the closing element.
-pub(crate) fn all_asks(alloc: Global, states: &[MinState]) -> Result<List<i64>, Memory>
-    ensures { IfOk result (λ v. v ≡ flat_map asks_in states.now ++ pos 0 ∷ []) }
-{
-    let mut asks = Vec::new(alloc);
-    for state in states {
-        push_asks(alloc, &mut asks, state)?;
-    }
-    push(&mut asks, 0)?;
-    Ok(List::from_vec(asks))
-}
-
-// Puts the numbers of entries of a state's cells at the end.
-fn push_entry_counts(alloc: Global, counts: &mut Vec<usize>, state: &MinState) -> Result<(), Memory>
-    ensures { IfOk result (λ _. counts.new.items ≡ counts.old.items ++ entry_counts state.now) }
-{
-    let runs = ordered_of(alloc, state)?;
-    for run in &runs {
-        push(counts, entry_count(state.edges.as_slice(), run))?;
-    }
-    Ok(())
-}
-
-/// How many entries each cell has.
-pub(crate) fn all_entry_counts(alloc: Global, states: &[MinState]) -> Result<Vec<usize>, Memory>
-    ensures { IfOk result (λ v. v.items ≡ flat_map entry_counts states.now) }
-{
-    let mut counts = Vec::new(alloc);
-    for state in states {
-        push_entry_counts(alloc, &mut counts, state)?;
-    }
-    Ok(counts)
 }

@@ -8,16 +8,14 @@ ghost use Rattle.rl_layout.specs.Shown.{Shows};
 ghost use Rattle.rl_layout.specs.Told.{told};
 ghost use Rattle.rl_layout.specs.Books.{actions_of};
 ghost use Rattle.rl_layout.specs.SpecArrays.{alphabet_number};
-ghost use Rattle.std.specs.List.{flat_map};
-ghost use Rattle.rl_layout.specs.Cells.{offsets, entry_counts};
+ghost use Rattle.rl_layout.specs.Cells.{offsets};
 ghost use Rattle.rl_layout.specs.Layout.{keys_laid, cells_laid, states_laid, statements_laid, names_laid, ends_laid, gathered, arrays_laid, arrays_of};
 
-use crate::books::{actions_of, listed, lists_of, order_of, step_lists};
-use crate::cells::{
-    all_asks, all_entry_counts, all_keys, all_steps, offsets, push_offsets, targets,
-};
+use crate::books::{actions_of, listed, lists_of, order_of};
+use crate::cells::{all_keys, offsets, push_offsets};
 use crate::lists::push;
 use crate::names::{action_names, condition_names, copy_name, entry_names, entry_states, start_of};
+use crate::shares::{cells_used, stored_cells};
 use crate::statements::{StatementArray, behind_zero, by_statement, statement_counts};
 use crate::states::{StateArray, by_state, cell_counts, key_counts, range_lengths, single_lengths};
 use rl_arrays::Arrays;
@@ -36,10 +34,11 @@ pub(crate) struct Keys {
     pub ranges: List<i64>,
 }
 
-// The arrays of cells and entries.
+// The arrays of uses of cells, cells and entries.
 #[derive(Drop)]
 pub(crate) struct Cells {
     pub offsets: List<i64>,
+    pub uses: List<i64>,
     pub asks: List<i64>,
     pub entries: List<i64>,
     pub targets: List<i64>,
@@ -103,32 +102,21 @@ fn lay_keys(alloc: Global, states: &[MinState]) -> Result<Keys, Memory>
     })
 }
 
-// Where the entries of all cells begin, and the closing element.
-fn lay_entries(alloc: Global, states: &[MinState]) -> Result<List<i64>, Memory>
-    ensures { IfOk result (λ v. v ≡ offsets 0 (flat_map entry_counts states.now) ++ pos 0 ∷ []) }
-{
-    let counts = all_entry_counts(alloc, states)?;
-    let mut places = offsets(alloc, &counts)?;
-    push(&mut places, 0)?;
-    Ok(List::from_vec(places))
-}
-
+// Keys share the cells that are equal.
 fn lay_cells(alloc: Global, lists: &[&[ActionId]], states: &[MinState]) -> Result<Cells, Memory>
     ensures { IfOk result (λ c. c ≡ cells_laid (told lists.now) states.now) }
 {
     let counts = cell_counts(alloc, states)?;
     let places = offsets(alloc, &counts)?;
-    let asks = all_asks(alloc, states)?;
-    let entries = lay_entries(alloc, states)?;
-    let steps = all_steps(alloc, states)?;
-    let targets = targets(alloc, &steps)?;
-    let lists = step_lists(alloc, lists, &steps)?;
+    let used = cells_used(alloc, lists, states)?;
+    let stored = stored_cells(alloc, &used)?;
     Ok(Cells {
         offsets: List::from_vec(places),
-        asks,
-        entries,
-        targets,
-        lists,
+        uses: stored.uses,
+        asks: stored.asks,
+        entries: stored.entries,
+        targets: stored.targets,
+        lists: stored.lists,
     })
 }
 
@@ -210,9 +198,8 @@ fn lay_ends(alloc: Global, spec: &Spec, min: &MinFsm) -> Result<Ends, Memory>
     })
 }
 
-// All arrays, in version 1.
+// All arrays, in version 2.
 fn gather(
-    alloc: Global,
     actions: List<i64>,
     ends: Ends,
     names: Names,
@@ -224,7 +211,7 @@ fn gather(
     ensures { result ≡ gathered actions ends names keys cells states statements }
 {
     Arrays {
-        version: 1,
+        version: 2,
         name: names.machine,
         start: ends.start,
         first_final: ends.first_final,
@@ -235,7 +222,7 @@ fn gather(
         single_lengths: keys.singles,
         range_lengths: keys.ranges,
         cell_offsets: cells.offsets,
-        cell_uses: List::new(alloc),
+        cell_uses: cells.uses,
         cell_asks: cells.asks,
         cell_entries: cells.entries,
         trans_targs: cells.targets,
@@ -279,7 +266,7 @@ fn lay_rest(
     let cells = lay_cells(alloc, lists, states)?;
     let own = lay_states(alloc, lists, states)?;
     let statements = lay_statements(alloc, spec.actions.as_slice(), order)?;
-    Ok(gather(alloc, actions, ends, names, keys, cells, own, statements))
+    Ok(gather(actions, ends, names, keys, cells, own, statements))
 }
 
 // The arrays.
@@ -297,7 +284,8 @@ fn lay_arrays(alloc: Global, spec: &Spec, min: &MinFsm) -> Result<Arrays, Memory
 
 /// The tables of a machine, whose actions, conditions, keys and entries are those of the Spec; its from-state and
 /// to-state actions, and those of steps in a scanner, have no control statements. A state's single keys and ranges are
-/// the maximal runs of consecutive keys at which it steps alike. Lists are numbered in the order of first use, state by
+/// the maximal runs of consecutive keys at which it steps alike; the arrays are of version 2, where runs whose cells are
+/// equal share one, numbered in the order of first use. Lists are numbered in the order of first use, state by
 /// state: its from-state, to-state, end-of-file, error and token lists, and then those of its entries; actions have the
 /// numbers of their first places in the lists (this profile). The tables' look-ups are those of the machine, state by
 /// state, with actions by these numbers. An `Err` is want of memory.

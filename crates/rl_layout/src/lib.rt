@@ -7,6 +7,7 @@ mod lay;
 mod lists;
 mod names;
 mod runs;
+mod shares;
 mod statements;
 mod states;
 

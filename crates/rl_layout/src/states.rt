@@ -3,6 +3,7 @@ ghost use Rattle.std.specs.Prelude.{◌≡◌, ◌+◌, pos, map, length, IfOk};
 ghost use Rattle.rl_layout.specs.Told.{told};
 ghost use Rattle.rl_layout.specs.Runs as runs;
 ghost use Rattle.rl_layout.specs.Cells.{key_count, cell_count};
+ghost use Rattle.rl_layout.specs.Books.{place_in};
 ghost use Rattle.rl_layout.specs.StateArrays.{value_of};
 
 use crate::books::place_in;
@@ -25,16 +26,24 @@ pub(crate) enum StateArray {
     Home,
 }
 
+// The number of a list.
+fn list_number(lists: &[&[ActionId]], list: &[ActionId]) -> Result<i64, Memory>
+    ensures { IfOk result (λ z. z ≡ pos (place_in (told lists.now) list.now)) }
+{
+    let place = place_in(lists, list)?;
+    number(place)
+}
+
 // What an array has for a state.
 fn value(which: StateArray, lists: &[&[ActionId]], state: &MinState) -> Result<i64, Memory>
     ensures { IfOk result (λ z. z ≡ pos (value_of which (told lists.now) state.now)) }
 {
     match which {
-        StateArray::From => place_in(lists, state.from.as_slice()),
-        StateArray::To => place_in(lists, state.to.as_slice()),
-        StateArray::Eof => place_in(lists, state.eof.as_slice()),
-        StateArray::Error => place_in(lists, state.error.as_slice()),
-        StateArray::Token => place_in(lists, state.token.as_slice()),
+        StateArray::From => list_number(lists, state.from.as_slice()),
+        StateArray::To => list_number(lists, state.to.as_slice()),
+        StateArray::Eof => list_number(lists, state.eof.as_slice()),
+        StateArray::Error => list_number(lists, state.error.as_slice()),
+        StateArray::Token => list_number(lists, state.token.as_slice()),
         StateArray::Kind => Ok(i64::from(state.kind)),
         StateArray::Home => Ok(i64::from(state.home)),
     }
