@@ -102,7 +102,9 @@ module _ {S H : Type 0} (step : H → Call → Answer → H → Type 0) (m : Mac
   unfolding at_end
   at_ended n ih s h fine low e p = go input.has_rest p
     where
-      go : (d : Bool) → Plays step h (cond d (done (rest (Some (Stopped HalfKey)) s)) (ending true m settings (end_of input) s (λ v. turns true m settings input n v))) last end →
+      go : (d : Bool) →
+          Plays step h
+          (cond d (done (rest (Some (Stopped HalfKey)) s)) (ending true m settings (end_of input) s (λ v. turns true m settings input n v))) last end →
           weight t < weight s
       go true q = other (Some (Stopped HalfKey)) s (not_stopped HalfKey) q.1
       go false q = ended n ih s h fine low e q
@@ -114,7 +116,8 @@ module _ {S H : Type 0} (step : H → Call → Answer → H → Type 0) (m : Mac
       joined n ih s low (turn m settings s character) h (turn_law m settings s character kinded fine (omega (arith, seen_before input s.next character e))) p
   lettered n ih s h fine low None e p = go input.is_closed p
     where
-      go : (d : Bool) → Plays step h (cond d (at_end true m settings input (λ v. turns true m settings input n v) s) (done (rest (Some Wants) s))) last end → weight t < weight s
+      go : (d : Bool) → Plays step h (cond d (at_end true m settings input (λ v. turns true m settings input n v) s) (done (rest (Some Wants) s))) last end →
+          weight t < weight s
       go true q = at_ended n ih s h fine low e q
       go false q = other (Some Wants) s not_wants q.1
 

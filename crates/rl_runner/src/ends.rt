@@ -118,7 +118,8 @@ pub fn end_state<H: FnMut(Call) -> Answer>(
     requires end { width * base + length window.now < 2 ^ 63 }
     requires callable { H.IsAlwaysCallable host.old }
     ensures plays { (n : ℕ) × Plays H.step host.old
-        (turns true (machine tables.now) settings.now (closed_of width base window.now) n (session_of (machine tables.now) s.old))
+        (turns true (machine tables.now) settings.now (closed_of width base window.now) n
+        (session_of (machine tables.now) s.old))
         host.new (rest (Some result) (session_of (machine tables.now) s.new)) }
     ensures sound { IsSound tables.now settings.now s.new }
     ensures fine { result ≡ Outcome.Broke → IsFine (machine tables.now) (session_of (machine tables.now) s.new) }

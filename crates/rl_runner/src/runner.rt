@@ -113,8 +113,8 @@ impl Runner<'_> {
         }
     }
 
-    /// Makes turns up to the end of the window's whole characters, or through the turn in which a break is applied. The window
-    /// is the input's bytes so far from the character `base` on.
+    /// Makes turns up to the end of the window's whole characters, or through the turn in which a break is applied. The
+    /// window is the input's bytes so far from the character `base` on.
     pub fn feed<H: FnMut(Call) -> Answer>(
         &mut self,
         host: &mut H,
@@ -127,9 +127,11 @@ impl Runner<'_> {
 
         // The host is called with a chain of calls: those of the run on the window, with exactly its answers.
         ensures played { self.old.over ≡ None → Played H.step host.old
-            (run_on true (machine self.old.tables) self.old.settings (window_of (machine self.old.tables).width base window.now) self.old.session)
+            (run_on true (machine self.old.tables) self.old.settings
+            (window_of (machine self.old.tables).width base window.now) self.old.session)
             host.new (rest (Some result) self.new.session) }
-        ensures wants { result ≡ Outcome.Wants → base + length window.now / (machine self.old.tables).width ≤ self.new.session.next }
+        ensures wants { result ≡ Outcome.Wants →
+            base + length window.now / (machine self.old.tables).width ≤ self.new.session.next }
         ensures over_after { self.new.over ≡ over_after result }
         ensures same { (self.new.tables ≡ self.old.tables) × (self.new.settings ≡ self.old.settings) }
         ensures keeps { self.new.over ≡ None → base ≤ keep self.new.settings self.new.session }
@@ -176,7 +178,8 @@ impl Runner<'_> {
 
         // The host is called with a chain of calls: those of the run to the end of input, with exactly its answers.
         ensures played { self.old.over ≡ None → Played H.step host.old
-            (run_on true (machine self.old.tables) self.old.settings (closed_of (machine self.old.tables).width base window.now) self.old.session)
+            (run_on true (machine self.old.tables) self.old.settings
+            (closed_of (machine self.old.tables).width base window.now) self.old.session)
             host.new (rest (Some result) self.new.session) }
         ensures ends { result ≢ Outcome.Wants }
         ensures over_after { self.new.over ≡ over_after result }

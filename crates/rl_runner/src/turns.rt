@@ -529,7 +529,8 @@ pub fn run_turn<H: FnMut(Call) -> Answer>(
     requires next { s.old.next < 2 ^ 63 }
     requires callable { H.IsAlwaysCallable host.old }
     ensures plays { Plays H.step host.old
-        (says.turn (machine tables.now) settings.now (session_of (machine tables.now) s.old) (group_at width window.now at))
+        (says.turn (machine tables.now) settings.now (session_of (machine tables.now) s.old)
+        (group_at width window.now at))
         host.new (came result (session_of (machine tables.now) s.new)) }
     ensures sound { IsSound tables.now settings.now s.new }
     ensures callable { H.IsAlwaysCallable host.new }

@@ -97,8 +97,11 @@ module _ {S H : Type 0} (step : H → Call → Answer → H → Type 0) (m : Mac
   unfolding at_end
   on_end n ih s h = go input.has_rest
     where
-      go : (d : Bool) → Plays step h (cond d (done (rest (Some (Stopped HalfKey)) s)) (ending true m settings (end_of input) s (λ v. turns true m settings input n v))) mid broken →
-          (j : ℕ) × Plays step h (cond d (done (rest (Some (Stopped HalfKey)) s)) (ending false m settings (end_of input) s (λ v. turns false m settings input j v))) last r
+      go : (d : Bool) →
+          Plays step h
+          (cond d (done (rest (Some (Stopped HalfKey)) s)) (ending true m settings (end_of input) s (λ v. turns true m settings input n v))) mid broken →
+          (j : ℕ) × Plays step h
+          (cond d (done (rest (Some (Stopped HalfKey)) s)) (ending false m settings (end_of input) s (λ v. turns false m settings input j v))) last r
       go true q = absurd (done_broke step m settings mid t (Some (Stopped HalfKey)) s h (stopped_broke HalfKey) q)
       go false q = on_ending n ih (end_of input) s h q
 

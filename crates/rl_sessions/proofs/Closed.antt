@@ -82,10 +82,12 @@ module _ {S H : Type 0} (step : H → Call → Answer → H → Type 0) (m : Mac
       Plays step h (at_end true m settings b (λ v. turns true m settings b n v) s) last r
   unfolding at_end
   at_ended n ih s h fine low e p =
-      subst (λ d. Plays step h (cond d (done (rest (Some (Stopped HalfKey)) s)) (ending true m settings (end_of b) s (λ v. turns true m settings b n v))) last r) (sym rests)
+      subst (λ d. Plays step h
+      (cond d (done (rest (Some (Stopped HalfKey)) s)) (ending true m settings (end_of b) s (λ v. turns true m settings b n v))) last r) (sym rests)
       (go a.has_rest p)
     where
-      go : (d : Bool) → Plays step h (cond d (done (rest (Some (Stopped HalfKey)) s)) (ending true m settings (end_of a) s (λ v. turns true m settings a n v))) last r →
+      go : (d : Bool) →
+          Plays step h (cond d (done (rest (Some (Stopped HalfKey)) s)) (ending true m settings (end_of a) s (λ v. turns true m settings a n v))) last r →
           Plays step h (cond d (done (rest (Some (Stopped HalfKey)) s)) (ending true m settings (end_of b) s (λ v. turns true m settings b n v))) last r
       go true q = q
       go false q = subst (λ at. Plays step h (ending true m settings at s (λ v. turns true m settings b n v)) last r) (sym ends) (ended n ih s h fine low e q)
@@ -126,14 +128,16 @@ drop_get (x ∷ xs) (suc base) i =
     let here : suc base + i ≡ suc (base + i) = omega arith in
     rw here (drop_get xs base i)
 
-closed_alike : (width base : ℕ) (xs : List ℕ) → 0 < width → (p : ℕ) → base ≤ p → letter (closed_of width 0 xs) p ≡ letter (closed_of width base (drop (width * base) xs)) p
+closed_alike : (width base : ℕ) (xs : List ℕ) → 0 < width → (p : ℕ) → base ≤ p →
+    letter (closed_of width 0 xs) p ≡ letter (closed_of width base (drop (width * base) xs)) p
 closed_alike width base xs some p low =
     let zero_low : nat_lt p 0 ≡ false = grind (arith, nat_tests) in
     let base_low : nat_lt p base ≡ false = grind (arith, nat_tests) in
     let whole : p - 0 ≡ base + (p - base) = omega arith in
     rw (zero_low, base_low, whole) (drop_get (characters width xs) base (p - base) ∙ ap (λ cs. slice_get cs (p - base)) (drop-characters width base xs some))
 
-closed_ends : (width base : ℕ) (xs : List ℕ) → 0 < width → width * base ≤ length xs → end_of (closed_of width 0 xs) ≡ end_of (closed_of width base (drop (width * base) xs))
+closed_ends : (width base : ℕ) (xs : List ℕ) → 0 < width → width * base ≤ length xs →
+    end_of (closed_of width 0 xs) ≡ end_of (closed_of width base (drop (width * base) xs))
 closed_ends width base xs some within =
     let whole = length-characters width xs in
     let low : base ≤ length xs / width = le-div base (length xs) width some (subst (λ n. n ≤ length xs) (mul_comm width base) within) in
@@ -142,10 +146,13 @@ closed_ends width base xs some within =
     omega arith
 
 -- so the whole run
-pub run_at_end : {S H : Type 0} (step : H → Call → Answer → H → Type 0) (m : Machine S) (kinded : IsKinded m) (settings : Settings) (width base : ℕ) (xs : List ℕ)
+pub run_at_end : {S H : Type 0} (step : H → Call → Answer → H → Type 0) (m : Machine S) (kinded : IsKinded m) (settings : Settings) (width base : ℕ)
+    (xs : List ℕ)
     (last : H) (r : Rest S) (s : Session S) (h : H) → 0 < width → width * base ≤ length xs → length xs < 2 ^ 63 → IsFine m s → base ≤ keep settings s →
-    Played step h (run_on true m settings (closed_of width base (drop (width * base) xs)) s) last r → Plays step h (run_on true m settings (closed_of width 0 xs) s) last r
+    Played step h (run_on true m settings (closed_of width base (drop (width * base) xs)) s) last r →
+    Plays step h (run_on true m settings (closed_of width 0 xs) s) last r
 run_at_end step m kinded settings width base xs last r s h some within below fine low p =
     let ends = closed_ends width base xs some within in
-    run_alike step m kinded settings (closed_of width base (drop (width * base) xs)) (closed_of width 0 xs) refl refl ends (sym (has_rest-drop width base xs within))
+    run_alike step m kinded settings (closed_of width base (drop (width * base) xs)) (closed_of width 0 xs) refl refl ends
+    (sym (has_rest-drop width base xs within))
     (subst (λ n. n < 2 ^ 63) ends (limit width 0 xs true some (omega arith))) (closed_alike width base xs some) last r s h fine low p

@@ -37,7 +37,8 @@ slice_drop (x ∷ xs) (suc base) i b e =
     rw here (slice_drop xs base i b e)
 
 -- a part of what is seen
-pub part_extends : (width b0 b : ℕ) (xs front behind : List ℕ) → 0 < width → b0 ≤ b → front ++ behind ≡ drop (width * (b - b0)) xs → Extends (window_of width b front) (window_of width b0 xs)
+pub part_extends : (width b0 b : ℕ) (xs front behind : List ℕ) → 0 < width → b0 ≤ b → front ++ behind ≡ drop (width * (b - b0)) xs →
+    Extends (window_of width b front) (window_of width b0 xs)
 part_extends width b0 b xs front behind some low e p c f = go (nat_lt p b) refl f
   where
     go : (t : Bool) → nat_lt p b ≡ t → cond t None (slice_get (characters width front) (p - b)) ≡ Some c → letter (window_of width b0 xs) p ≡ Some c
@@ -127,7 +128,8 @@ module _ {S H : Type 0} (step : H → Call → Answer → H → Type 0) (m : Mac
     ran_wants p = record { joins = λ whole x. (ran_part Wants p).comes whole x }
 
   -- so a run over what is seen is the run on the whole
-  pub ran_whole : (width : ℕ) (seen : Input) (xs : List ℕ) (h : H) (s : Session S) (o : Outcome) (last : H) (t : Session S) → 0 < width → IsKinded m → IsFine m s →
+  pub ran_whole : (width : ℕ) (seen : Input) (xs : List ℕ) (h : H) (s : Session S) (o : Outcome) (last : H) (t : Session S) → 0 < width → IsKinded m →
+      IsFine m s →
       RanOver step m settings seen h s o last t → Extends seen (window_of width 0 xs) → length xs < 2 ^ 63 → (o ≡ Wants → length xs / width ≤ t.next) →
       Played step h (run_on false m settings (window_of width 0 xs) s) last (rest (Some o) t)
   ran_whole width seen xs h s o last t some kinded fine ran extends below past =
@@ -139,7 +141,8 @@ module _ {S H : Type 0} (step : H → Call → Answer → H → Type 0) (m : Mac
           (j : ℕ) × Plays step h (turns false m settings (window_of width 0 xs) j s) last (rest (Some o) t)
       go Wants c past =
           let p = past refl in
-          c.on last (rest (Some Wants) t) 1 (plays_wants step m settings (window_of width 0 xs) false 0 t last (letter_past width 0 xs false t.next (omega arith)) refl)
+          c.on last (rest (Some Wants) t) 1
+          (plays_wants step m settings (window_of width 0 xs) false 0 t last (letter_past width 0 xs false t.next (omega arith)) refl)
       go Broke c past = absurd c
       go Ended c past = absurd c
       go (Stopped cause) c past = c

@@ -93,7 +93,7 @@ first_is name start x e =
     let here : bytes_eq name name ≡ true = (bytes_eq-Decides name name).1 refl in
     sym (found_here (started name start) x (rw here at e))
 
-nothing_dropped : (n : ℕ) (xs : List ℕ) → n ≡ 0 → drop n xs ≡ xs
+pub nothing_dropped : (n : ℕ) (xs : List ℕ) → n ≡ 0 → drop n xs ≡ xs
 nothing_dropped n xs e = subst (λ k. drop k xs ≡ xs) (sym e) refl
 
 -- behind a piece it has no more than the piece

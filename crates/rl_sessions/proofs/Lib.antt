@@ -12,3 +12,4 @@ pub mod Shorts
 pub mod Stands
 pub mod Unbroken
 pub mod Widths
+pub mod Whole

@@ -69,16 +69,19 @@ pub record EndsBehind {S H : Type 0} (step : H → Call → Answer → H → Typ
 
 module _ {S H : Type 0} (step : H → Call → Answer → H → Type 0) (m : Machine S) (settings : Settings) (base : ℕ) (window : List ℕ) where
   pub ends_start : (h : H) (s : Session S) → base ≤ keep settings s → EndsBehind step m settings base window h s h s
-  ends_start h s low = record { fine = λ x. x; low = low; ends = record { joins = λ input within same. joins_start step m settings (closed_of m.width 0 input) h s } }
+  ends_start h s low =
+      record { fine = λ x. x; low = low; ends = record { joins = λ input within same. joins_start step m settings (closed_of m.width 0 input) h s } }
 
-  limit_of : (input : List ℕ) → m.width * base ≤ length input → drop (m.width * base) input ≡ window → m.width * base + length window < 2 ^ 63 → length input < 2 ^ 63
+  limit_of : (input : List ℕ) → m.width * base ≤ length input → drop (m.width * base) input ≡ window → m.width * base + length window < 2 ^ 63 →
+      length input < 2 ^ 63
   limit_of input within same below =
       let len = length-drop (m.width * base) input in
       let same_len = ap length same in
       omega arith
 
   module _ (first : H) (start : Session S) (h : H) (s : Session S) (mid : H) (t : Session S)
-      (behind : EndsBehind step m settings base window first start h s) (some : 0 < m.width) (kinded : IsKinded m) (fine : IsFine m s) (below : m.width * base + length window < 2 ^ 63) where
+      (behind : EndsBehind step m settings base window first start h s) (some : 0 < m.width) (kinded : IsKinded m) (fine : IsFine m s)
+      (below : m.width * base + length window < 2 ^ 63) where
     -- on the whole input
     on_whole : (o : Outcome) → Played step h (run_on true m settings (closed_of m.width base window) s) mid (rest (Some o) t) →
         (input : List ℕ) → m.width * base ≤ length input → drop (m.width * base) input ≡ window →
@@ -87,7 +90,8 @@ module _ {S H : Type 0} (step : H → Call → Answer → H → Type 0) (m : Mac
         run_at_end step m kinded settings m.width base input mid (rest (Some o) t) s h some within (limit_of input within same below) fine behind.low
         (subst (λ w. Played step h (run_on true m settings (closed_of m.width base w) s) mid (rest (Some o) t)) (sym same) p)
 
-    pub ends_more : base ≤ keep settings t → Played step h (run_on true m settings (closed_of m.width base window) s) mid (rest (Some Broke) t) → EndsBehind step m settings base window first start mid t
+    pub ends_more : base ≤ keep settings t → Played step h (run_on true m settings (closed_of m.width base window) s) mid (rest (Some Broke) t) →
+        EndsBehind step m settings base window first start mid t
     ends_more low p = record {
       fine = λ _. behind.fine fine;
       low = low;
@@ -100,18 +104,21 @@ module _ {S H : Type 0} (step : H → Call → Answer → H → Type 0) (m : Mac
       };
     }
 
-    pub ends_whole : (o : Outcome) → (o ≡ Broke → ⊥) → Played step h (run_on true m settings (closed_of m.width base window) s) mid (rest (Some o) t) → RanOut step m settings base window first start o mid t
+    pub ends_whole : (o : Outcome) → (o ≡ Broke → ⊥) → Played step h (run_on true m settings (closed_of m.width base window) s) mid (rest (Some o) t) →
+        RanOut step m settings base window first start o mid t
     ends_whole o n p = record {
       ran = λ input within same.
           let q = run_unbroken step m settings (closed_of m.width 0 input) mid o t n s h (on_whole o p input within same) in
-          let w = (behind.ends.joins input within same).on mid (rest (Some o) t) (suc (weight s)) (as_turns step m settings false (closed_of m.width 0 input) h s mid (rest (Some o) t) q) in
+          let w = (behind.ends.joins input within same).on mid (rest (Some o) t) (suc (weight s))
+          (as_turns step m settings false (closed_of m.width 0 input) h s mid (rest (Some o) t) q) in
           let room = limit m.width 0 input true some (subst (λ n. n < 2 ^ 63) (omega arith) (limit_of input within same below)) in
           played step first mid (run_on false m settings (closed_of m.width 0 input) start) (rest (Some o) t)
           (on_enough step m kinded settings false (closed_of m.width 0 input) room w.0 start t first mid o (behind.fine fine) (omega arith) w.1);
     }
 
 -- the same of tables and settings that are the same
-pub played_of : {H : Type 0} (step : H → Call → Answer → H → Type 0) (base : ℕ) (bytes : List ℕ) (is_closed : Bool) (a b : Arrays) (x y : Settings) (s : Session ℕ) (h last : H) (r : Rest ℕ) → a ≡ b → x ≡ y →
+pub played_of : {H : Type 0} (step : H → Call → Answer → H → Type 0) (base : ℕ) (bytes : List ℕ) (is_closed : Bool) (a b : Arrays) (x y : Settings)
+    (s : Session ℕ) (h last : H) (r : Rest ℕ) → a ≡ b → x ≡ y →
     Played step h (run_on true (machine a) x (input_at (machine a).width base bytes is_closed) s) last r →
     Played step h (run_on true (machine b) y (input_at (machine b).width base bytes is_closed) s) last r
 played_of step base bytes is_closed a b x y s h last r e f p =

@@ -68,7 +68,8 @@ module _ (width : ℕ) (w : WindowValue) (piece input : List ℕ) (within : widt
       let low = part.low in
       let later : v.base ≡ w.base + (v.base - w.base) = omega arith in
       let there : width * v.base ≡ width * w.base + width * (v.base - w.base) = ap (λ n. width * n) later ∙ mul_split width w.base (v.base - w.base) in
-      ap (λ n. drop n (input ++ piece)) there ∙ sym (drop-drop (width * (v.base - w.base)) (width * w.base) (input ++ piece)) ∙ ap (λ xs. drop (width * (v.base - w.base)) xs) from_base
+      ap (λ n. drop n (input ++ piece)) there ∙ sym (drop-drop (width * (v.base - w.base)) (width * w.base) (input ++ piece))
+      ∙ ap (λ xs. drop (width * (v.base - w.base)) xs) from_base
       ∙ sym part.same ∙ append-nil v.bytes
 
   window_within : (v : WindowValue) → IsPart width w.base (w.bytes ++ piece) v [] → width * v.base ≤ length (input ++ piece)
@@ -77,7 +78,7 @@ module _ (width : ℕ) (w : WindowValue) (piece input : List ℕ) (within : widt
       let len = whole_longer in
       omega (arith, end, len)
 
-none_some : {A : Type 0} (o : Outcome) → None ≡ Some o → A
+pub none_some : {A : Type 0} (o : Outcome) → None ≡ Some o → A
 none_some o e = cc
 
 module _ {H : Type 0} (step : H → Call → Answer → H → Type 0) (m : Machine ℕ) (settings : Settings) where
@@ -116,7 +117,8 @@ module _ {H : Type 0} (step : H → Call → Answer → H → Type 0) (m : Machi
     going = λ _. record {
       played = λ input b.
           let len = longer m.width w piece input b.within b.same in
-          let ends = quotient_behind m.width w.base (length (w.bytes ++ piece)) (length (input ++ piece)) some (whole_longer m.width w piece input b.within b.same) in
+          let ends =
+          quotient_behind m.width w.base (length (w.bytes ++ piece)) (length (input ++ piece)) some (whole_longer m.width w piece input b.within b.same) in
           ran_whole step m settings m.width (window_of m.width w.base (w.bytes ++ piece)) (input ++ piece) h s o last t some kinded fine ran
           (seen_in m.width w piece input b.within b.same some) (omega (arith, len, limit))
           (λ f. subst (λ n. n ≤ t.next) (sym ends) (past f));

@@ -39,7 +39,8 @@ low_at : (base n k : ℕ) → base ≤ k → base + min (k - base) n ≤ k
 low_at base n k low = omega arith
 
 -- a window is ready for more behind a run over it
-pub ready_after : {S : Type 0} (width : ℕ) (settings : Settings) (w : WindowValue) (t : Session S) → 0 < width → w.width ≡ width → w.base ≤ keep settings t → IsShort settings t →
+pub ready_after : {S : Type 0} (width : ℕ) (settings : Settings) (w : WindowValue) (t : Session S) → 0 < width → w.width ≡ width → w.base ≤ keep settings t →
+    IsShort settings t →
     w.base + length w.bytes / width ≤ t.next → width * (most_kept settings + 1) ≤ w.capacity → IsReady width settings (dropped w (keep settings t)) t
 ready_after width settings w t some e low short end room = record {
   width_same = e;
@@ -92,14 +93,17 @@ module _ (width base : ℕ) (all : List ℕ) (w : WindowValue) (behind : List �
         low = omega arith;
         same = sym (drop-append-le (w.width * n) w.bytes behind within) ∙ ap (λ xs. drop (w.width * n) xs) part.same
             ∙ drop-drop (w.width * n) (width * (w.base - base)) all ∙ ap (λ i. drop i all) there;
-        end = ended width w.base n (length w.bytes) (w.width * n) (length (drop (w.width * n) w.bytes)) (length behind) (width * base + length all) left within same end;
+        end = ended width w.base n (length w.bytes) (w.width * n) (length (drop (w.width * n) w.bytes)) (length behind)
+            (width * base + length all) left within same end;
       }
     where
-      ended : (width base n len cut left behind all : ℕ) → left ≡ len - cut → cut ≤ len → cut ≡ width * n → width * base + len + behind ≡ all → width * (base + n) + left + behind ≡ all
+      ended : (width base n len cut left behind all : ℕ) → left ≡ len - cut → cut ≤ len → cut ≡ width * n → width * base + len + behind ≡ all →
+          width * (base + n) + left + behind ≡ all
       ended width base n len cut left behind all a b c d = omega arith
 
 -- there is room for what stands behind
-pub room_behind : (width base : ℕ) (all : List ℕ) (w : WindowValue) (behind : List ℕ) → IsPart width base all w behind → w.width ≡ width → width * base + length all < 2 ^ 63 →
+pub room_behind : (width base : ℕ) (all : List ℕ) (w : WindowValue) (behind : List ℕ) → IsPart width base all w behind → w.width ≡ width →
+    width * base + length all < 2 ^ 63 →
     ends_at w + length behind < 2 ^ 63
 room_behind width base all w behind part e below =
     let end = part.end in
@@ -115,7 +119,8 @@ pub record Along {S H : Type 0} (step : H → Call → Answer → H → Type 0) 
   pub runs : RunsFrom step m settings (window_of m.width base all) first start h s
 
 module _ {S H : Type 0} (step : H → Call → Answer → H → Type 0) (m : Machine S) (settings : Settings) where
-  pub along_start : (w : WindowValue) (piece : List ℕ) (h : H) (s : Session S) → IsReady m.width settings w s → Along step m settings w.base (w.bytes ++ piece) h s h s w piece
+  pub along_start : (w : WindowValue) (piece : List ℕ) (h : H) (s : Session S) → IsReady m.width settings w s →
+      Along step m settings w.base (w.bytes ++ piece) h s h s w piece
   along_start w piece h s ready = record {
     fine = λ x. x;
     ready = ready;
@@ -142,7 +147,8 @@ module _ {S H : Type 0} (step : H → Call → Answer → H → Type 0) (m : Mac
     along_ran o mid t p =
         ran_part step m settings (window_of m.width base all) first start h s along.runs (window_of m.width v.base v.bytes) refl next_extends mid t o p
 
-    pub along_more : (o : Outcome) (mid : H) (t : Session S) (u : WindowValue) → o ≡ Wants → u ≡ dropped v (keep settings t) → IsReady m.width settings u t → IsFine m s →
+    pub along_more : (o : Outcome) (mid : H) (t : Session S) (u : WindowValue) → o ≡ Wants → u ≡ dropped v (keep settings t) → IsReady m.width settings u t →
+        IsFine m s →
         RanOver step m settings (window_of m.width v.base v.bytes) h s o mid t → Along step m settings base all first start mid t u next
     along_more o mid t u wants g ready fine p = record {
       fine = λ _. along.fine fine;
@@ -166,10 +172,12 @@ module _ {S H : Type 0} (step : H → Call → Answer → H → Type 0) (m : Mac
 
     pub along_part : (k : ℕ) (u : WindowValue) → u ≡ dropped v k → next ≡ [] → IsPart m.width base all u []
     along_part k u d g =
-        subst (λ xs. IsPart m.width base all u xs) g (subst (λ x. IsPart m.width base all x next) (sym d) (part_drop m.width base all v next part_next next_width k))
+        subst (λ xs. IsPart m.width base all u xs) g
+        (subst (λ x. IsPart m.width base all x next) (sym d) (part_drop m.width base all v next part_next next_width k))
 
 -- each round takes a byte at least
-pub shorter : {S : Type 0} (width : ℕ) (settings : Settings) (w : WindowValue) (s : Session S) (behind next : List ℕ) → IsReady width settings w s → next ≡ drop (taken w behind) behind →
+pub shorter : {S : Type 0} (width : ℕ) (settings : Settings) (w : WindowValue) (s : Session S) (behind next : List ℕ) → IsReady width settings w s →
+    next ≡ drop (taken w behind) behind →
     0 < length next → length next < length behind
 shorter width settings w s behind next ready e some =
     let len = length-drop (taken w behind) behind in
@@ -179,7 +187,8 @@ shorter width settings w s behind next ready e some =
 
 -- the same of tables and settings that are the same
 pub ran_of : {H : Type 0} (step : H → Call → Answer → H → Type 0) (base : ℕ) (bytes : List ℕ) (a b : Arrays) (x y : Settings) (h : H) (s : Session ℕ) (o : Outcome) (last : H) (t : Session ℕ) → a ≡ b → x ≡ y →
-    RanOver step (machine a) x (window_of (machine a).width base bytes) h s o last t → RanOver step (machine b) y (window_of (machine b).width base bytes) h s o last t
+    RanOver step (machine a) x (window_of (machine a).width base bytes) h s o last t →
+    RanOver step (machine b) y (window_of (machine b).width base bytes) h s o last t
 ran_of step base bytes a b x y h s o last t e f p =
     subst (λ v. RanOver step (machine b) v (window_of (machine b).width base bytes) h s o last t) f
     (subst (λ v. RanOver step (machine v) x (window_of (machine v).width base bytes) h s o last t) e p)

@@ -19,7 +19,7 @@ use Rattle.rl_run.proofs.Moves.{Moved, calls_move}
 use Rattle.rl_run.proofs.Same.{Same, silent_calls, quiet_calls}
 use Rattle.rl_sessions.specs.Short.{IsWithin, IsShort}
 
-leaves_any : {A : Type 0} (p : Play A) → AllEnds (λ a. Unit {0}) p
+pub leaves_any : {A : Type 0} (p : Play A) → AllEnds (λ a. Unit {0}) p
 leaves_any (done a) = tt
 leaves_any (ask c f) = λ x. leaves_any (f x)
 

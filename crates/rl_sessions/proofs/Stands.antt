@@ -55,7 +55,9 @@ module _ {S H : Type 0} (step : H → Call → Answer → H → Type 0) (m : Mac
       (leaf (λ c. UnlessStops c.flow (IsShort settings c.session)) step h a.0 (turn m settings s byte) a.1 (turn_short m kinded settings s fine byte) a.2) a.3
   lettered n ih s h fine short None e p = go input.is_closed not_closed p
     where
-      go : (d : Bool) → d ≡ false → Plays step h (cond d (at_end true m settings input (λ v. turns true m settings input n v) s) (done (rest (Some Wants) s))) last r → Stands m settings r
+      go : (d : Bool) → d ≡ false →
+          Plays step h (cond d (at_end true m settings input (λ v. turns true m settings input n v) s) (done (rest (Some Wants) s))) last r →
+          Stands m settings r
       go true x q = absurd (no x)
         where
           no : true ≡ false → ⊥

@@ -60,10 +60,15 @@ module _ {S H : Type 0} (step : H → Call → Answer → H → Type 0) (m : Mac
       ]) p
 
   at_ended : (n : ℕ) → Same n → (s : Session S) (h : H) →
-      Plays step h (at_end true m settings input (λ v. turns true m settings input n v) s) last end → Plays step h (at_end false m settings input (λ v. turns false m settings input n v) s) last end
+      Plays step h (at_end true m settings input (λ v. turns true m settings input n v) s) last end →
+      Plays step h (at_end false m settings input (λ v. turns false m settings input n v) s) last end
   unfolding at_end
-  at_ended n ih s h p = (elim input.has_rest as (λ b. Plays step h (cond b (done (rest (Some (Stopped HalfKey)) s)) (ending true m settings (end_of input) s (λ v. turns true m settings input n v))) last end →
-      Plays step h (cond b (done (rest (Some (Stopped HalfKey)) s)) (ending false m settings (end_of input) s (λ v. turns false m settings input n v))) last end) [
+  at_ended n ih s h p =
+      (elim input.has_rest as
+      (λ b. Plays step h
+      (cond b (done (rest (Some (Stopped HalfKey)) s)) (ending true m settings (end_of input) s (λ v. turns true m settings input n v))) last end →
+      Plays step h
+      (cond b (done (rest (Some (Stopped HalfKey)) s)) (ending false m settings (end_of input) s (λ v. turns false m settings input n v))) last end) [
         | true ↦ λ p. p
         | false ↦ λ p. ended n ih (end_of input) s h p
       ]) p
@@ -72,7 +77,9 @@ module _ {S H : Type 0} (step : H → Call → Answer → H → Type 0) (m : Mac
       Plays step h (at_letter true m settings input (λ v. turns true m settings input n v) s l) last end → Plays step h (at_letter false m settings input (λ v. turns false m settings input n v) s l) last end
   unfolding at_letter
   lettered n ih s h (Some character) p = joined n ih (turn m settings s character) h p
-  lettered n ih s h None p = (elim input.is_closed as (λ b. Plays step h (cond b (at_end true m settings input (λ v. turns true m settings input n v) s) (done (rest (Some Wants) s))) last end →
+  lettered n ih s h None p =
+      (elim input.is_closed as
+      (λ b. Plays step h (cond b (at_end true m settings input (λ v. turns true m settings input n v) s) (done (rest (Some Wants) s))) last end →
       Plays step h (cond b (at_end false m settings input (λ v. turns false m settings input n v) s) (done (rest (Some Wants) s))) last end) [
         | true ↦ λ p. at_ended n ih s h p
         | false ↦ λ p. p

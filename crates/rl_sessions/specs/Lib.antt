@@ -7,3 +7,4 @@ pub mod SessionsInside
 pub mod SessionsValue
 pub mod Short
 pub mod Views
+pub mod Whole

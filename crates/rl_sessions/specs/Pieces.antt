@@ -5,8 +5,8 @@ use Rattle.rl_run.specs.Machine.{Session, keep}
 use Rattle.rl_window.specs.WindowValue.{WindowValue}
 use Rattle.rl_sessions.specs.Short.{IsShort, most_kept}
 
--- a window before a piece, where a character has so many bytes: what may still be read is in it or behind it, and it has room for a
--- byte more at least
+-- a window before a piece, where a character has so many bytes: what may still be read is in it or behind it, and it
+-- has room for a byte more at least
 pub record IsReady {S : Type 0} (width : ℕ) (settings : Settings) (w : WindowValue) (s : Session S) : Type 0 where
   pub width_same : w.width ≡ width
   pub low : w.base ≤ keep settings s

@@ -14,19 +14,22 @@ use Rattle.rl_arrays.specs.TableMachine.{machine}
 use Rattle.rl_sessions.specs.SessionsValue.{SessionValue, SessionsValue, IsWindowOf, find, replaced}
 
 module _ {H : Type 0} (step : H → Call → Answer → H → Type 0) (m : Machine ℕ) (settings : Settings) where
-  -- a run on an input goes on over a piece more, behind every break, and stands where the outcome says; whatever the input was, as
-  -- long as the window is its end; a piece may end within a character
+  -- a run on an input goes on over a piece more, behind every break, and stands where the outcome says; whatever the
+  -- input was, as long as the window is its end; a piece may end within a character
   pub record RunsOver (piece : List ℕ) (host last : H) (x y : SessionValue) (outcome : Outcome) : Type 0 where
     pub played : (before : List ℕ) → IsWindowOf m.width before x →
-        Played step host (run_on false m settings (window_of m.width 0 (before ++ piece)) x.session) last (rest (Some outcome) y.session)
-    pub window : y.over ≡ None → (before : List ℕ) → IsWindowOf m.width before x → IsWindowOf m.width (before ++ piece) y
+        Played step host (run_on false m settings (window_of m.width 0 (before ++ piece)) x.session) last
+        (rest (Some outcome) y.session)
+    pub window : y.over ≡ None → (before : List ℕ) → IsWindowOf m.width before x →
+        IsWindowOf m.width (before ++ piece) y
     pub over : y.over ≡ over_after outcome
     pub unbroken : outcome ≢ Broke
 
   -- it goes on to the end of that input
   pub record RunsOut (host last : H) (x y : SessionValue) (outcome : Outcome) : Type 0 where
     pub played : (before : List ℕ) → IsWindowOf m.width before x →
-        Played step host (run_on false m settings (closed_of m.width 0 before) x.session) last (rest (Some outcome) y.session)
+        Played step host (run_on false m settings (closed_of m.width 0 before) x.session) last
+        (rest (Some outcome) y.session)
     pub over : y.over ≡ Some outcome
     pub unbroken : outcome ≢ Broke
     pub ends : outcome ≢ Wants

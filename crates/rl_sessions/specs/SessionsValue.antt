@@ -12,7 +12,8 @@ use Rattle.rl_arrays.specs.TableMachine.{machine}
 use Rattle.rl_sessions.specs.declared.fault.SessionFault.{SessionFault}
 use Rattle.rl_sessions.specs.declared.fault.SessionFault.TheVariants.{Twice, Full}
 
--- a session: its name; the bytes of its input from a character on; where its run stands, and what it is over with; whether it was ended
+-- a session: its name; the bytes of its input from a character on; where its run stands, and what it is over with;
+-- whether it was ended
 pub record SessionValue : Type 0 where
   pub name : List ℕ
   pub base : ℕ

@@ -2,6 +2,7 @@
 #![tactic(auto)]
 
 mod fault;
+mod from_start;
 mod one;
 mod pieces;
 mod places;
@@ -10,5 +11,6 @@ mod sessions;
 mod windows;
 
 pub use fault::SessionFault;
+pub use from_start::sessions_run_from_their_start;
 pub use one::SessionView;
 pub use sessions::Sessions;

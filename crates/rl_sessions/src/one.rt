@@ -103,7 +103,9 @@ pub(crate) fn feed_one<H: FnMut(Call) -> Answer>(
     host: &mut H,
 ) -> Outcome
     requires one { IsOne one.old.runner.tables one.old.runner.settings one.old }
-    requires end { one.old.over ≡ None → (machine one.old.runner.tables).width * one.old.window.base + length one.old.window.bytes + length piece.now < 2 ^ 63 }
+    requires end { one.old.over ≡ None →
+        (machine one.old.runner.tables).width * one.old.window.base + length one.old.window.bytes
+        + length piece.now < 2 ^ 63 }
     requires callable { H.IsAlwaysCallable host.old }
     ensures takes { Takes H.step (machine one.old.runner.tables) one.old.runner.settings piece.now host.old host.new (session_value one.old) (session_value one.new) result }
     ensures one { IsOne one.old.runner.tables one.old.runner.settings one.new }

@@ -26,10 +26,14 @@ fn feed_and_drop<H: FnMut(Call) -> Answer>(
     requires width { window.old.width ≡ (machine runner.old.tables).width }
     requires room { (machine runner.old.tables).width * (most_kept runner.old.settings + 1) ≤ window.old.capacity }
     requires callable { H.IsAlwaysCallable host.old }
-    ensures ran { RanOver H.step (machine runner.old.tables) runner.old.settings (window_of (machine runner.old.tables).width window.old.base window.old.bytes) host.old runner.old.session result host.new runner.new.session }
-    ensures wants { result ≡ Outcome.Wants → window.old.base + length window.old.bytes / (machine runner.old.tables).width ≤ runner.new.session.next }
+    ensures ran { RanOver H.step (machine runner.old.tables) runner.old.settings
+        (window_of (machine runner.old.tables).width window.old.base window.old.bytes) host.old runner.old.session
+        result host.new runner.new.session }
+    ensures wants { result ≡ Outcome.Wants →
+        window.old.base + length window.old.bytes / (machine runner.old.tables).width ≤ runner.new.session.next }
     ensures window { window.new ≡ dropped window.old (keep runner.old.settings runner.new.session) }
-    ensures ready { result ≡ Outcome.Wants → IsReady (machine runner.old.tables).width runner.old.settings window.new runner.new.session }
+    ensures ready { result ≡ Outcome.Wants →
+        IsReady (machine runner.old.tables).width runner.old.settings window.new runner.new.session }
     ensures over_after { runner.new.over ≡ over_after result }
     ensures unbroken { result ≢ Outcome.Broke }
     ensures same { (runner.new.tables ≡ runner.old.tables) × (runner.new.settings ≡ runner.old.settings) }
@@ -73,10 +77,16 @@ pub(crate) fn feed_piece<H: FnMut(Call) -> Answer>(
     requires ready { IsReady (machine runner.old.tables).width runner.old.settings window.old runner.old.session }
     requires end { (machine runner.old.tables).width * window.old.base + length window.old.bytes + length piece.now < 2 ^ 63 }
     requires callable { H.IsAlwaysCallable host.old }
-    ensures ran { RanOver H.step (machine runner.old.tables) runner.old.settings (window_of (machine runner.old.tables).width window.old.base (window.old.bytes ++ piece.now)) host.old runner.old.session result host.new runner.new.session }
-    ensures wants { result ≡ Outcome.Wants → window.old.base + length (window.old.bytes ++ piece.now) / (machine runner.old.tables).width ≤ runner.new.session.next }
-    ensures window { result ≡ Outcome.Wants → IsPart (machine runner.old.tables).width window.old.base (window.old.bytes ++ piece.now) window.new [] }
-    ensures ready { result ≡ Outcome.Wants → IsReady (machine runner.old.tables).width runner.old.settings window.new runner.new.session }
+    ensures ran { RanOver H.step (machine runner.old.tables) runner.old.settings
+        (window_of (machine runner.old.tables).width window.old.base (window.old.bytes ++ piece.now)) host.old
+        runner.old.session result host.new runner.new.session }
+    ensures wants { result ≡ Outcome.Wants →
+        window.old.base + length (window.old.bytes ++ piece.now) / (machine runner.old.tables).width
+        ≤ runner.new.session.next }
+    ensures window { result ≡ Outcome.Wants →
+        IsPart (machine runner.old.tables).width window.old.base (window.old.bytes ++ piece.now) window.new [] }
+    ensures ready { result ≡ Outcome.Wants →
+        IsReady (machine runner.old.tables).width runner.old.settings window.new runner.new.session }
     ensures over_after { runner.new.over ≡ over_after result }
     ensures unbroken { result ≢ Outcome.Broke }
     ensures same { (runner.new.tables ≡ runner.old.tables) × (runner.new.settings ≡ runner.old.settings) }

@@ -14,8 +14,8 @@ use rl_types::EntryId;
 use std::alloc::Global;
 use std::marker::Model;
 
-/// Sessions over one set of tables, each with its own input. Contracts see them as a list in the order in which they were
-/// started; they stay in it when they are ended.
+/// Sessions over one set of tables, each with its own input. Contracts see them as a list in the order in which they
+/// were started; they stay in it when they are ended.
 #[derive(Drop)]
 pub struct Sessions<'a> {
     alloc: Global,
@@ -58,9 +58,9 @@ impl Sessions<'_> {
         }
     }
 
-    /// Starts a session at the start of an entry, behind all others. `Twice` comes exactly where one of the name was started
-    /// before, whether it was ended or not; `Full` exactly where none was, and 1,024 were not ended; else `Memory` may come.
-    /// All sessions stay as they were behind a refusal.
+    /// Starts a session at the start of an entry, behind all others. `Twice` comes exactly where one of the name was
+    /// started before, whether it was ended or not; `Full` exactly where none was, and 1,024 were not ended; else
+    /// `Memory` may come. All sessions stay as they were behind a refusal.
     pub fn start(&mut self, alloc: Global, name: &[u8], entry: EntryId) -> Result<(), SessionFault>
         requires { IsEntryNumber self.old.tables entry.0 }
         ensures started { IfOk result (λ _. self.new ≡ record self.old { all = self.old.all ++ started name.now ((machine self.old.tables).entry entry.0) ∷ [] }) }
@@ -88,10 +88,10 @@ impl Sessions<'_> {
         Ok(())
     }
 
-    /// Runs a session over a piece more of its input, which may end within a character, behind every break. `NoSession` comes
-    /// exactly where no session that was not ended has the name, and is the only error; everything stays as it was then. It
-    /// answers `Wants`, or `Stopped` with what the session stopped with, also where it stopped before: then nobody is called.
-    /// It takes no memory.
+    /// Runs a session over a piece more of its input, which may end within a character, behind every break. `NoSession`
+    /// comes exactly where no session that was not ended has the name, and is the only error; everything stays as it
+    /// was then. It answers `Wants`, or `Stopped` with what the session stopped with, also where it stopped before:
+    /// then nobody is called. It takes no memory.
     pub fn piece<H: FnMut(Call) -> Answer>(
         &mut self,
         name: &[u8],
@@ -112,10 +112,10 @@ impl Sessions<'_> {
     }
 
     /// Runs a session to the end of its input, behind every break, and what follows there; an input that ends within a
-    /// character stops it with `HalfKey`. It can't be reached any more by `piece` and `end`. `NoSession` comes exactly where
-    /// no session that was not ended has the name, and is the only error; everything stays as it was then. It answers
-    /// `Ended`, or `Stopped` with what the session stopped with, also where it stopped before: then nobody is called. It
-    /// takes no memory.
+    /// character stops it with `HalfKey`. It can't be reached any more by `piece` and `end`. `NoSession` comes exactly
+    /// where no session that was not ended has the name, and is the only error; everything stays as it was then. It
+    /// answers `Ended`, or `Stopped` with what the session stopped with, also where it stopped before: then nobody is
+    /// called. It takes no memory.
     pub fn end<H: FnMut(Call) -> Answer>(
         &mut self,
         name: &[u8],
@@ -143,7 +143,8 @@ impl Sessions<'_> {
         }
     }
 
-    /// The position of a session's next character, from 0; None exactly where none of the name was started. It takes no memory.
+    /// The position of a session's next character, from 0; None exactly where none of the name was started. It takes no
+    /// memory.
     pub fn next(&self, name: &[u8]) -> Option<u64>
         ensures { result ≡ option_map (λ (x : SessionValue). x.session.next) (find name.now self.now.all) }
     {
@@ -160,7 +161,8 @@ impl Sessions<'_> {
         self.all.len()
     }
 
-    /// The session at a place in the order of starting, from 0; None exactly where there are not so many. It takes no memory.
+    /// The session at a place in the order of starting, from 0; None exactly where there are not so many. It takes no
+    /// memory.
     pub fn session(&self, place: usize) -> Option<SessionView<'_>>
         ensures { IsViewOf self.now.tables (slice_get self.now.all place) result }
     {

@@ -33,8 +33,11 @@ pub(crate) fn feed_window<H: FnMut(Call) -> Answer>(
     requires end { (machine runner.old.tables).width * base + length window.now < 2 ^ 63 }
     requires short { IsShort runner.old.settings runner.old.session }
     requires callable { H.IsAlwaysCallable host.old }
-    ensures ran { RanOver H.step (machine runner.old.tables) runner.old.settings (window_of (machine runner.old.tables).width base window.now) host.old runner.old.session result host.new runner.new.session }
-    ensures wants { result ≡ Outcome.Wants → base + length window.now / (machine runner.old.tables).width ≤ runner.new.session.next }
+    ensures ran { RanOver H.step (machine runner.old.tables) runner.old.settings
+        (window_of (machine runner.old.tables).width base window.now) host.old runner.old.session result host.new
+        runner.new.session }
+    ensures wants { result ≡ Outcome.Wants →
+        base + length window.now / (machine runner.old.tables).width ≤ runner.new.session.next }
     ensures short { result ≡ Outcome.Wants → IsShort runner.old.settings runner.new.session }
     ensures keeps { result ≡ Outcome.Wants → base ≤ keep runner.old.settings runner.new.session }
     ensures over_after { runner.new.over ≡ over_after result }

@@ -1,8 +1,8 @@
 -- What contracts see of a window.
 use Rattle.std.specs.Prelude.{◌≡◌, ℕ, ◌+◌, ◌-◌, ◌*◌, ◌/◌, ◌<◌, ◌≤◌, ◌^◌, ◌⊎◌, min, List, [], ◌++◌, length, take, drop}
 
--- the bytes of an input from a position on, as far as they were pushed, and how many bytes there is room for; a character has `width`
--- bytes, and `base` counts characters
+-- the bytes of an input from a position on, as far as they were pushed, and how many bytes there is room for; a
+-- character has `width` bytes, and `base` counts characters
 pub record WindowValue : Type 0 where
   pub width : ℕ
   pub base : ℕ

@@ -7,7 +7,8 @@ use std::alloc::Global;
 use std::marker::Model;
 
 /// The bytes of an input that may still be read: those from a character on, as far as they have come. A window has room
-/// for a number of bytes that is reserved at its start (this profile). A character has the same number of bytes everywhere.
+/// for a number of bytes that is reserved at its start (this profile). A character has the same number of bytes
+/// everywhere.
 #[derive(Debug, Drop)]
 pub struct Window {
     width: u32,
@@ -61,8 +62,8 @@ fn dropped_of(asked: u64, held: usize, width: u32) -> u64
 impl Window {
     ghost use Rattle.rl_window.specs.WindowValue.{empty_window, end_of, taken, pushed, dropped, Fits};
 
-    /// A window at the start of an input, with room for `capacity` bytes, over characters of `width` bytes each. `Memory` is
-    /// the only error, and comes exactly where that room can't be reserved.
+    /// A window at the start of an input, with room for `capacity` bytes, over characters of `width` bytes each.
+    /// `Memory` is the only error, and comes exactly where that room can't be reserved.
     pub fn new(alloc: Global, capacity: usize, width: u32) -> Result<Window, Memory>
         requires { IsWidth width }
         ensures { IfOk result (λ w. w ≡ empty_window capacity width) }
@@ -88,8 +89,8 @@ impl Window {
         }
     }
 
-    /// Appends as many bytes of the piece as there is room for, and answers how many; the last of them may stand within a
-    /// character. It takes no memory.
+    /// Appends as many bytes of the piece as there is room for, and answers how many; the last of them may stand within
+    /// a character. It takes no memory.
     pub fn push(&mut self, piece: &[u8]) -> usize
         requires { end_of self.old + length piece.now < 2 ^ 63 }
         ensures count { result ≡ taken self.old piece.now }

@@ -40,7 +40,8 @@ returns-then-s-end-2-clause-plays g c =
     let whole = sym c.is_cut.ensures ∙ c.if-is_cut.false in
     let at = c.end_at-end.ensures.value in
     let input = closed_of c.args.width c.args.base c.args.window.now in
-    c.loop-s.invariant.plays 1 _ _ (ends_whole _ _ _ c.args.width c.args.base c.args.window.now _ 0 _ _ _ _ _ (omega arith) whole at (plays_past _ _ _ input _ _ _ _ _ (omega arith)))
+    c.loop-s.invariant.plays 1 _ _
+    (ends_whole _ _ _ c.args.width c.args.base c.args.window.now _ 0 _ _ _ _ _ (omega arith) whole at (plays_past _ _ _ input _ _ _ _ _ (omega arith)))
 
 pub returns-in-None-clause-plays : goal.returns-in-None-clause-plays
 returns-in-None-clause-plays g c =
@@ -81,7 +82,8 @@ loop-s-preserved g c =
       sound = c.deliver_last.ensures.sound;
       fine = follows.fine;
       base = omega (arith, keeps);
-      plays = λ n last r p. c.loop-s.invariant.plays (suc n) last r (ends_whole _ _ _ c.args.width c.args.base c.args.window.now _ n _ _ _ _ _ (omega arith) whole at
+      plays = λ n last r p. c.loop-s.invariant.plays (suc n) last r
+          (ends_whole _ _ _ c.args.width c.args.base c.args.window.now _ n _ _ _ _ _ (omega arith) whole at
           (plays_delivery _ _ _ input _ _ _ _ _ _ _ _ _ _ (omega arith) kept c.deliver_last.ensures.plays
           (plays_on _ _ _ input _ n _ _ _ last r c.in_default-deliver_last.not-Breaks c.in_default-deliver_last.not-Stops p)));
     }

@@ -17,8 +17,11 @@ invariant-loop-s g l = record {
   fine : IsFine (machine l.tables) (session_of (machine l.tables) l.s);
   base : l.base ≤ keep l.settings (session_of (machine l.tables) l.s);
   plays : (n : ℕ) (last : _) (r : Rest _) →
-      Plays (λ p x r q. goal.H-step g p x r q) l.host (turns true (machine l.tables) l.settings (closed_of l.width l.base l.window) n (session_of (machine l.tables) l.s)) last r
-      → (k : ℕ) × Plays (λ p x r q. goal.H-step g p x r q) l.fn.host (turns true (machine l.tables) l.settings (closed_of l.width l.base l.window) k (session_of (machine l.tables) l.fn.s)) last r;
+      Plays (λ p x r q. goal.H-step g p x r q) l.host
+      (turns true (machine l.tables) l.settings (closed_of l.width l.base l.window) n (session_of (machine l.tables) l.s)) last r
+      → (k : ℕ)
+      × Plays (λ p x r q. goal.H-step g p x r q) l.fn.host
+      (turns true (machine l.tables) l.settings (closed_of l.width l.base l.window) k (session_of (machine l.tables) l.fn.s)) last r;
 }
 
 abbrev pub decreases-loop-s : goal.decreases-loop-s

@@ -9,4 +9,5 @@ pub returns-clause-follows : goal.returns-clause-follows
 returns-clause-follows g c =
     let m = machine c.args.tables.now in
     let s = session_of m c.args.s.now in
-    leaf (λ d. UnlessStops d.flow (GoesOn m c.args.settings.now s d.session)) _ _ _ _ _ (turn_law m c.args.settings.now s _ c.requires.kinded c.requires.fine c.requires.next) c.run_turn.ensures.plays
+    leaf (λ d. UnlessStops d.flow (GoesOn m c.args.settings.now s d.session)) _ _ _ _ _
+    (turn_law m c.args.settings.now s _ c.requires.kinded c.requires.fine c.requires.next) c.run_turn.ensures.plays

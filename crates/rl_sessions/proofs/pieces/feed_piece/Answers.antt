@@ -47,5 +47,6 @@ pieces-preserved g c =
       e.over_after ∙ ap over_after wants,
       e.same.0 ∙ i.2,
       e.same.1 ∙ i.3,
-      along_more _ _ _ _ _ _ _ _ _ _ _ (width_there _) i.4 _ _ c.push-count.ensures.value next _ _ _ _ wants dropped ready (fine_of _ _ _ i.2 e.fine) (ran_of _ _ _ _ _ _ _ _ _ _ _ _ i.2 i.3 e.ran),
+      along_more _ _ _ _ _ _ _ _ _ _ _ (width_there _) i.4 _ _ c.push-count.ensures.value next _ _ _ _ wants dropped ready (fine_of _ _ _ i.2 e.fine)
+          (ran_of _ _ _ _ _ _ _ _ _ _ _ _ i.2 i.3 e.ran),
     )

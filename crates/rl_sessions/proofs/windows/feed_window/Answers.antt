@@ -12,7 +12,8 @@ pub returns-then-is_over-clause-ran : goal.returns-then-is_over-clause-ran
 returns-then-is_over-clause-ran g c =
     let i = c.loop-outcome.invariant in
     let e = c.feed-outcome.ensures in
-    behind_end _ _ _ _ _ _ _ _ _ _ _ i.4 (kinded_of _ _ i.2 e.kinded) (fine_of _ _ _ i.2 (e.fine i.1)) refl (limit _ c.args.base c.args.window.now false (width_there c.args.runner.now.tables) c.requires.end) _
+    behind_end _ _ _ _ _ _ _ _ _ _ _ i.4 (kinded_of _ _ i.2 e.kinded) (fine_of _ _ _ i.2 (e.fine i.1)) refl
+    (limit _ c.args.base c.args.window.now false (width_there c.args.runner.now.tables) c.requires.end) _
     (c.is_over.ensures.over c.if-is_over.true)
     (played_of _ c.args.base c.args.window.now false _ _ _ _ _ _ _ _ i.2 i.3 (e.played i.1))
 
@@ -20,7 +21,8 @@ pub returns-then-is_over-clause-short : goal.returns-then-is_over-clause-short
 returns-then-is_over-clause-short g c = λ wants.
     let i = c.loop-outcome.invariant in
     let e = c.feed-outcome.ensures in
-    short_behind _ _ _ _ _ _ _ _ _ refl (limit _ c.args.base c.args.window.now false (width_there c.args.runner.now.tables) c.requires.end) (kinded_of _ _ i.2 e.kinded) (fine_of _ _ _ i.2 (e.fine i.1)) i.4.short wants
+    short_behind _ _ _ _ _ _ _ _ _ refl (limit _ c.args.base c.args.window.now false (width_there c.args.runner.now.tables) c.requires.end)
+    (kinded_of _ _ i.2 e.kinded) (fine_of _ _ _ i.2 (e.fine i.1)) i.4.short wants
     (played_of _ c.args.base c.args.window.now false _ _ _ _ _ _ _ _ i.2 i.3 (e.played i.1))
 
 pub loop-outcome-smaller : goal.loop-outcome-smaller
@@ -38,6 +40,7 @@ loop-outcome-preserved g c =
       none,
       e.same.0 ∙ i.2,
       e.same.1 ∙ i.3,
-      behind_more _ _ _ _ _ _ _ _ _ _ _ i.4 (kinded_of _ _ i.2 e.kinded) (fine_of _ _ _ i.2 (e.fine i.1)) refl (limit _ c.args.base c.args.window.now false (width_there c.args.runner.now.tables) c.requires.end) low
+      behind_more _ _ _ _ _ _ _ _ _ _ _ i.4 (kinded_of _ _ i.2 e.kinded) (fine_of _ _ _ i.2 (e.fine i.1)) refl
+          (limit _ c.args.base c.args.window.now false (width_there c.args.runner.now.tables) c.requires.end) low
           (broke_of _ _ _ _ _ _ broke (played_of _ c.args.base c.args.window.now false _ _ _ _ _ _ _ _ i.2 i.3 (e.played i.1))),
     )

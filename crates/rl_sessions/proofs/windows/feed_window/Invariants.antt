@@ -11,7 +11,8 @@ invariant-loop-outcome g l =
     × (l.runner.over ≡ None)
     × (l.runner.tables ≡ l.fn.runner.tables)
     × (l.runner.settings ≡ l.fn.runner.settings)
-    × Behind (goal.H-step g) (machine l.fn.runner.tables) l.fn.runner.settings l.base (window_of (machine l.fn.runner.tables).width l.base l.window) l.fn.host l.fn.runner.session l.host l.runner.session
+    × Behind (goal.H-step g) (machine l.fn.runner.tables) l.fn.runner.settings l.base
+    (window_of (machine l.fn.runner.tables).width l.base l.window) l.fn.host l.fn.runner.session l.host l.runner.session
 
 abbrev pub decreases-loop-outcome : goal.decreases-loop-outcome
 decreases-loop-outcome g l = weight l.runner.session

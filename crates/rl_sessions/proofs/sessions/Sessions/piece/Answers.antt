@@ -10,10 +10,14 @@ pub feed_one-requires-clause-end : goal.feed_one-requires-clause-end
 feed_one-requires-clause-end g c =
     let place = rw c.as_slice.ensures.value at c.in-Some.ensures in
     let small = rw (← c.self.view_is) at c.requires.small in
-    let one = one_at (IsOne c.self.inside.tables.now c.self.inside.settings) c.self.inside.all.items c.in-Some.place c.index_mut.result.now c.index_mut.ensures.value c.self.invariant.ones place.within in
+    let one =
+    one_at (IsOne c.self.inside.tables.now c.self.inside.settings) c.self.inside.all.items c.in-Some.place c.index_mut.result.now c.index_mut.ensures.value
+    c.self.invariant.ones place.within in
     let x = c.index_mut.result.now in
     subst (λ t. x.over ≡ None → (machine t).width * x.window.base + length x.window.bytes + length c.args.piece.now < 2 ^ 63) (sym one.tables)
-    (small (session_value x) (live_found c.self.inside.tables.now c.self.inside.settings c.self.inside.all.items c.args.name.now c.in-Some.place c.index_mut.result.now place c.index_mut.ensures.value))
+    (small (session_value x)
+    (live_found c.self.inside.tables.now c.self.inside.settings c.self.inside.all.items c.args.name.now c.in-Some.place c.index_mut.result.now place
+    c.index_mut.ensures.value))
 
 pub returns-clause-taken : goal.returns-clause-taken
 returns-clause-taken g c =
