@@ -15,7 +15,8 @@ use Rattle.rl_leaves.specs.declared.text.Character.{Character}
 use Rattle.rl_leaves.specs.Texts.{character, slash_behind, before, characters, within, characters_within}
 use Rattle.rl_leaves.specs.Forms.{AreRanges, IsItem, IsLeaf}
 use Rattle.rl_leaves.specs.Literals.{character_item, characters_leaf, literal_leaf}
-use Rattle.rl_leaves.proofs.FormLaws.{runs_form, character_form, tested_form}
+use Rattle.rl_leaves.proofs.FormLaws.{character_form, tested_form}
+use Rattle.rl_leaves.proofs.SetForms as sets
 use Rattle.rl_types.specs.declared.numbers.Key.{Key}
 use Rattle.rl_types.specs.KeyRange.{Range}
 use Rattle.rl_leaves.specs.declared.character_set.CharacterSet.{CharacterSet}
@@ -83,11 +84,11 @@ within_bytes text h = characters_bytes false (within text) (each IsByte (within 
 
 items_form : (alphabet : Alphabet) (folds : Bool) (cs : List Character) → Each HasByte cs → Each (IsItem alphabet) (map (character_item alphabet folds) cs)
 items_form alphabet folds [] h = tt
-items_form alphabet folds (c ∷ cs) h = (character_form alphabet folds c.byte h.0, items_form alphabet folds cs h.1)
+items_form alphabet folds (c ∷ cs) h = (character_form alphabet folds c.byte, items_form alphabet folds cs h.1)
 
 characters_form : (alphabet : Alphabet) (folds : Bool) (cs : List Character) → Each HasByte cs → IsLeaf alphabet (characters_leaf alphabet folds cs)
 characters_form alphabet folds [] h = tt
-characters_form alphabet folds (c ∷ []) h = character_form alphabet folds c.byte h.0
+characters_form alphabet folds (c ∷ []) h = character_form alphabet folds c.byte
 characters_form alphabet folds (c ∷ d ∷ cs) h = all (IsItem alphabet) (map (character_item alphabet folds) (c ∷ d ∷ cs)) (items_form alphabet folds (c ∷ d ∷ cs) h)
 
 pub literal_form : (alphabet : Alphabet) (text : List ℕ) → All IsByte text → IsLeaf alphabet (literal_leaf alphabet text)
@@ -113,7 +114,7 @@ only_first false r f l e = absurd (none_of f l e)
 
 set_case : (alphabet : Alphabet) (b : Bool) (s : CharacterSet) → IsLeaf alphabet (if b then leaf.Null else leaf.Set (set_ranges alphabet false s))
 set_case alphabet true s = tt
-set_case alphabet false s = runs_form alphabet (has alphabet false s)
+set_case alphabet false s = sets.set_form alphabet false s
 
 pub set_form : (alphabet : Alphabet) (text : List ℕ) (l : Leaf) → set_leaf alphabet text ≡ Ok l → IsLeaf alphabet l
 set_form alphabet text l e =
@@ -185,10 +186,10 @@ RangesForm alphabet o = MatchOption o (Unit {0}) (AreRanges alphabet)
 
 set_ranges_form : (alphabet : Alphabet) (b folds : Bool) (s : CharacterSet) → RangesForm alphabet (if b then None else Some (set_ranges alphabet folds s))
 set_ranges_form alphabet true folds s = tt
-set_ranges_form alphabet false folds s = runs_form alphabet (has alphabet folds s)
+set_ranges_form alphabet false folds s = sets.set_form alphabet folds s
 
 named_form : (alphabet : Alphabet) (folds : Bool) (x : Named) → NamedByte x → RangesForm alphabet (named_ranges alphabet folds x)
-named_form alphabet folds (named.Character b) h = character_form alphabet folds b h
+named_form alphabet folds (named.Character b) h = character_form alphabet folds b
 named_form alphabet folds (named.Set s) h = set_ranges_form alphabet (is_empty_word s) folds s
 
 regular_items_form : (alphabet : Alphabet) (folds : Bool) (xs : List RegularItem) → Each ItemByte xs → Each (IsItem alphabet) (map (item_of alphabet folds) xs)

@@ -4,21 +4,16 @@ use Rattle.std.specs.Prelude.{nat_le}
 use Rattle.std.proofs.lemmas.Int.{ints}
 use Rattle.std.proofs.lemmas.Bool.{and_parts, leb-true}
 use Rattle.rl_types.specs.declared.alphabet.Alphabet.{Alphabet}
-use Rattle.rl_types.specs.declared.alphabet.Alphabet.TheVariants.{Char, UnsignedChar}
+use Rattle.rl_types.specs.declared.alphabet.Alphabet.TheVariants.{Char, UnsignedChar, Short, UnsignedShort, Int, UnsignedInt}
 use Rattle.rl_types.specs.Alphabet.{least_key, greatest_key}
 use Rattle.rl_types.specs.KeyRange.{Range}
 use Rattle.rl_leaves.specs.declared.built_in.BuiltIn.{BuiltIn}
 use Rattle.rl_leaves.specs.declared.built_in.BuiltIn.TheVariants as b
 use Rattle.rl_leaves.specs.BuiltIns.{built_in_leaf}
 use Rattle.rl_leaves.specs.Forms.{Ascend, AreRanges, IsLeaf}
-use Rattle.rl_leaves.proofs.RunLaws.{EndBefore}
-use Rattle.rl_leaves.proofs.FormLaws.{form_from}
-
-le_from : (x k : ℤ) → int_le x k ≡ true → x ≤ℤ k
-le_from x k h = grind (arith, ints)
-
-lt_from : (x k : ℤ) → int_lt x k ≡ true → x <ℤ k
-lt_from x k h = grind (arith, ints)
+use Rattle.rl_leaves.proofs.KeyTests.{le_from, lt_from}
+use Rattle.rl_leaves.proofs.OrderLaws.{EndBefore, lower, higher}
+use Rattle.rl_leaves.proofs.FormLaws.{form_from, one_form, letter_bounds}
 
 ascends : ℤ → List Range → Bool
 ascends low [] = true
@@ -44,40 +39,54 @@ ends_is high (r ∷ rs) h =
     (lt_from r.hi high parts.0, ends_is high rs parts.1)
 
 -- a list that computes has the form where the tests do
-computed : (alphabet : Alphabet) (rs : List Range) → ascends (least_key alphabet) rs ≡ true → ends_before (greatest_key alphabet +ℤ pos 1) rs ≡ true
-    → nat_le (length rs) 256 ≡ true → AreRanges alphabet rs
-computed alphabet rs a e f = form_from alphabet rs (ascends_is (least_key alphabet) rs a) (ends_is (greatest_key alphabet +ℤ pos 1) rs e) (leb-true (length rs) 256 f)
+computed : (alphabet : Alphabet) (low high : ℤ) (rs : List Range) → (least_key alphabet ≤ℤ low) × (high ≤ℤ (greatest_key alphabet +ℤ pos 1))
+    → ascends low rs ≡ true → ends_before high rs ≡ true → nat_le (length rs) 256 ≡ true → AreRanges alphabet rs
+computed alphabet low high rs fits a e f =
+    form_from alphabet rs (lower (least_key alphabet) low rs fits.0 (ascends_is low rs a)) (higher (greatest_key alphabet +ℤ pos 1) high rs fits.1 (ends_is high rs e))
+    (leb-true (length rs) 256 f)
+
+ascii_fits : (alphabet : Alphabet) → (least_key alphabet ≤ℤ pos 0) × (pos 128 ≤ℤ (greatest_key alphabet +ℤ pos 1))
+ascii_fits alphabet =
+    let bounds = letter_bounds alphabet in
+    let greatest : pos 127 ≤ℤ greatest_key alphabet = bounds.1 in
+    (bounds.0, omega (arith, ints))
+
+-- keys from 0 to 127
+ascii : (alphabet : Alphabet) (rs : List Range) → ascends (pos 0) rs ≡ true → ends_before (pos 128) rs ≡ true → nat_le (length rs) 256 ≡ true → AreRanges alphabet rs
+ascii alphabet rs = computed alphabet (pos 0) (pos 128) rs (ascii_fits alphabet)
+
+any_form : (alphabet : Alphabet) → IsLeaf alphabet (built_in_leaf alphabet b.Any)
+any_form Char = one_form Char _ _ (omega (arith, ints)) (omega (arith, ints)) (omega (arith, ints))
+any_form UnsignedChar = one_form UnsignedChar _ _ (omega (arith, ints)) (omega (arith, ints)) (omega (arith, ints))
+any_form Short = one_form Short _ _ (omega (arith, ints)) (omega (arith, ints)) (omega (arith, ints))
+any_form UnsignedShort = one_form UnsignedShort _ _ (omega (arith, ints)) (omega (arith, ints)) (omega (arith, ints))
+any_form Int = one_form Int _ _ (omega (arith, ints)) (omega (arith, ints)) (omega (arith, ints))
+any_form UnsignedInt = one_form UnsignedInt _ _ (omega (arith, ints)) (omega (arith, ints)) (omega (arith, ints))
+
+extend_form : (alphabet : Alphabet) → IsLeaf alphabet (built_in_leaf alphabet b.Extend)
+extend_form Char = one_form Char _ _ (omega (arith, ints)) (omega (arith, ints)) (omega (arith, ints))
+extend_form UnsignedChar = one_form UnsignedChar _ _ (omega (arith, ints)) (omega (arith, ints)) (omega (arith, ints))
+extend_form Short = one_form Short _ _ (omega (arith, ints)) (omega (arith, ints)) (omega (arith, ints))
+extend_form UnsignedShort = one_form UnsignedShort _ _ (omega (arith, ints)) (omega (arith, ints)) (omega (arith, ints))
+extend_form Int = one_form Int _ _ (omega (arith, ints)) (omega (arith, ints)) (omega (arith, ints))
+extend_form UnsignedInt = one_form UnsignedInt _ _ (omega (arith, ints)) (omega (arith, ints)) (omega (arith, ints))
 
 pub built_in_form : (alphabet : Alphabet) (x : BuiltIn) → IsLeaf alphabet (built_in_leaf alphabet x)
 unfolding ascends ends_before
-built_in_form Char b.Any = computed Char _ refl refl refl
-built_in_form UnsignedChar b.Any = computed UnsignedChar _ refl refl refl
-built_in_form Char b.Extend = computed Char _ refl refl refl
-built_in_form UnsignedChar b.Extend = computed UnsignedChar _ refl refl refl
-built_in_form Char b.Ascii = computed Char _ refl refl refl
-built_in_form UnsignedChar b.Ascii = computed UnsignedChar _ refl refl refl
-built_in_form Char b.Alpha = computed Char _ refl refl refl
-built_in_form UnsignedChar b.Alpha = computed UnsignedChar _ refl refl refl
-built_in_form Char b.Digit = computed Char _ refl refl refl
-built_in_form UnsignedChar b.Digit = computed UnsignedChar _ refl refl refl
-built_in_form Char b.Alnum = computed Char _ refl refl refl
-built_in_form UnsignedChar b.Alnum = computed UnsignedChar _ refl refl refl
-built_in_form Char b.Lower = computed Char _ refl refl refl
-built_in_form UnsignedChar b.Lower = computed UnsignedChar _ refl refl refl
-built_in_form Char b.Upper = computed Char _ refl refl refl
-built_in_form UnsignedChar b.Upper = computed UnsignedChar _ refl refl refl
-built_in_form Char b.Punct = computed Char _ refl refl refl
-built_in_form UnsignedChar b.Punct = computed UnsignedChar _ refl refl refl
-built_in_form Char b.Graph = computed Char _ refl refl refl
-built_in_form UnsignedChar b.Graph = computed UnsignedChar _ refl refl refl
-built_in_form Char b.Print = computed Char _ refl refl refl
-built_in_form UnsignedChar b.Print = computed UnsignedChar _ refl refl refl
-built_in_form Char b.Space = computed Char _ refl refl refl
-built_in_form UnsignedChar b.Space = computed UnsignedChar _ refl refl refl
-built_in_form Char b.Xdigit = computed Char _ refl refl refl
-built_in_form UnsignedChar b.Xdigit = computed UnsignedChar _ refl refl refl
-built_in_form Char b.Cntrl = computed Char _ refl refl refl
-built_in_form UnsignedChar b.Cntrl = computed UnsignedChar _ refl refl refl
+built_in_form alphabet b.Any = any_form alphabet
+built_in_form alphabet b.Extend = extend_form alphabet
+built_in_form alphabet b.Ascii = ascii alphabet _ refl refl refl
+built_in_form alphabet b.Alpha = ascii alphabet _ refl refl refl
+built_in_form alphabet b.Digit = ascii alphabet _ refl refl refl
+built_in_form alphabet b.Alnum = ascii alphabet _ refl refl refl
+built_in_form alphabet b.Lower = ascii alphabet _ refl refl refl
+built_in_form alphabet b.Upper = ascii alphabet _ refl refl refl
+built_in_form alphabet b.Punct = ascii alphabet _ refl refl refl
+built_in_form alphabet b.Graph = ascii alphabet _ refl refl refl
+built_in_form alphabet b.Print = ascii alphabet _ refl refl refl
+built_in_form alphabet b.Space = ascii alphabet _ refl refl refl
+built_in_form alphabet b.Xdigit = ascii alphabet _ refl refl refl
+built_in_form alphabet b.Cntrl = ascii alphabet _ refl refl refl
 built_in_form alphabet b.Zlen = tt
 built_in_form alphabet b.Null = tt
 built_in_form alphabet b.Empty = tt

@@ -6,19 +6,16 @@ use Rattle.std.proofs.lemmas.Int.{ints}
 use Rattle.std.proofs.lemmas.Bool.{and_parts, and_from}
 use Rattle.std.proofs.lemmas.List.Elements.{All-nil, All-cons}
 use Rattle.rl_types.specs.declared.alphabet.Alphabet.{Alphabet}
-use Rattle.rl_types.specs.declared.alphabet.Alphabet.TheVariants.{Char, UnsignedChar}
+use Rattle.rl_types.specs.declared.alphabet.Alphabet.TheVariants.{Char, UnsignedChar, Short, UnsignedShort, Int, UnsignedInt}
 use Rattle.rl_types.specs.Alphabet.{least_key, greatest_key, has_key}
 use Rattle.rl_types.specs.KeyRange.{Range}
 use Rattle.rl_leaves.specs.CharacterSets.{byte_key, other_case, is_upper, is_lower}
-use Rattle.rl_leaves.specs.Ranges.{keys, only, runs, character_ranges}
+use Rattle.rl_leaves.specs.Ranges.{only, character_ranges}
 use Rattle.rl_leaves.specs.Forms.{Ascend, IsInAlphabet, AreRanges}
-use Rattle.rl_leaves.proofs.RunLaws.{ascend_runs, EndBefore, end_runs, few_runs}
-
-le_to : (x k : ℤ) → x ≤ℤ k → int_le x k ≡ true
-le_to x k h = grind (arith, ints)
-
-le_from : (x k : ℤ) → int_le x k ≡ true → x ≤ℤ k
-le_from x k h = grind (arith, ints)
+use Rattle.rl_leaves.proofs.KeyTests.{le_to, le_from}
+use Rattle.rl_leaves.proofs.OrderLaws.{EndBefore}
+use Rattle.rl_leaves.proofs.GatherLaws.{byte_least, byte_end, ends_fit}
+use Rattle.rl_leaves.proofs.GatherLaws as byte
 
 -- a key between the least and the greatest one
 pub has_between : (alphabet : Alphabet) (key : ℤ) → least_key alphabet ≤ℤ key → key ≤ℤ greatest_key alphabet → has_key alphabet key ≡ true
@@ -39,16 +36,6 @@ pub form_from : (alphabet : Alphabet) (rs : List Range) → Ascend (least_key al
     → AreRanges alphabet rs
 form_from alphabet rs a e f = record { ascend = a; within = all_within alphabet (least_key alphabet) rs (omega (arith, ints)) a e; few = f }
 
-keys_end : (alphabet : Alphabet) → (least_key alphabet +ℤ pos 256) ≤ℤ (greatest_key alphabet +ℤ pos 1)
-keys_end Char = omega (arith, ints)
-keys_end UnsignedChar = omega (arith, ints)
-
--- the longest runs of keys
-pub runs_form : (alphabet : Alphabet) (test : ℤ → Bool) → AreRanges alphabet (runs test (keys alphabet))
-runs_form alphabet test =
-    form_from alphabet (runs test (keys alphabet)) (ascend_runs test 256 (least_key alphabet))
-    (end_runs test 256 (least_key alphabet) (greatest_key alphabet +ℤ pos 1) (keys_end alphabet)) (few_runs test 256 (least_key alphabet))
-
 -- one range
 pub one_form : (alphabet : Alphabet) (lo hi : ℤ) → least_key alphabet ≤ℤ lo → lo ≤ℤ hi → hi ≤ℤ greatest_key alphabet
     → AreRanges alphabet (record { lo = lo; hi = hi } ∷ [])
@@ -68,21 +55,26 @@ tested_form alphabet lo hi a b c =
 
 -- ---- one character
 
-char_cases : (b : ℕ) (t : Bool) → nat_lt b 128 ≡ t → b < 256
-    → (negsuc 127 ≤ℤ cond t (pos b) (negsuc (255 - b))) × (cond t (pos b) (negsuc (255 - b)) ≤ℤ pos 127)
-char_cases b true e l = let small : b < 128 = ltb-true b 128 e in (omega (arith, ints), omega (arith, ints))
-char_cases b false e l = let large : 128 ≤ b = ltb-false b 128 e in (omega (arith, ints), omega (arith, ints))
-
-key_between : (alphabet : Alphabet) (b : ℕ) → b < 256 → (least_key alphabet ≤ℤ byte_key alphabet b) × (byte_key alphabet b ≤ℤ greatest_key alphabet)
-key_between Char b l = char_cases b (nat_lt b 128) refl l
-key_between UnsignedChar b l = (omega (arith, ints), omega (arith, ints))
+key_between : (alphabet : Alphabet) (b : ℕ) → (least_key alphabet ≤ℤ byte_key alphabet b) × (byte_key alphabet b ≤ℤ greatest_key alphabet)
+key_between alphabet b =
+    let key = byte.key_between alphabet b in
+    let low : byte_least alphabet ≤ℤ byte_key alphabet b = key.0 in
+    let high : byte_key alphabet b <ℤ byte_end alphabet = key.1 in
+    let ends = ends_fit alphabet in
+    let least : least_key alphabet ≤ℤ byte_least alphabet = ends.0 in
+    let greatest : byte_end alphabet ≤ℤ (greatest_key alphabet +ℤ pos 1) = ends.1 in
+    (omega (arith, ints), omega (arith, ints))
 
 alone : (alphabet : Alphabet) (key : ℤ) → least_key alphabet ≤ℤ key → key ≤ℤ greatest_key alphabet → AreRanges alphabet (only key ∷ [])
 alone alphabet key a b = one_form alphabet key key a (omega (arith, ints)) b
 
-letter_bounds : (alphabet : Alphabet) → (least_key alphabet ≤ℤ pos 0) × (pos 127 ≤ℤ greatest_key alphabet)
+pub letter_bounds : (alphabet : Alphabet) → (least_key alphabet ≤ℤ pos 0) × (pos 127 ≤ℤ greatest_key alphabet)
 letter_bounds Char = (omega (arith, ints), omega (arith, ints))
 letter_bounds UnsignedChar = (omega (arith, ints), omega (arith, ints))
+letter_bounds Short = (omega (arith, ints), omega (arith, ints))
+letter_bounds UnsignedShort = (omega (arith, ints), omega (arith, ints))
+letter_bounds Int = (omega (arith, ints), omega (arith, ints))
+letter_bounds UnsignedInt = (omega (arith, ints), omega (arith, ints))
 
 upper_form : (alphabet : Alphabet) (key : ℤ) → is_upper key ≡ true → AreRanges alphabet (only key ∷ only (other_case key) ∷ [])
 upper_form alphabet key h =
@@ -118,9 +110,9 @@ key_form : (alphabet : Alphabet) (folds : Bool) (key : ℤ) → least_key alphab
 key_form alphabet true key a b = folded alphabet key (is_upper key) (is_lower key) refl refl a b
 key_form alphabet false key a b = alone alphabet key a b
 
-pub character_form : (alphabet : Alphabet) (folds : Bool) (b : ℕ) → b < 256 → AreRanges alphabet (character_ranges alphabet folds b)
-character_form alphabet folds b less =
-    let between = key_between alphabet b less in
+pub character_form : (alphabet : Alphabet) (folds : Bool) (b : ℕ) → AreRanges alphabet (character_ranges alphabet folds b)
+character_form alphabet folds b =
+    let between = key_between alphabet b in
     key_form alphabet folds (byte_key alphabet b) between.0 between.1
 
 -- what is equal to a value of a form has the form

@@ -2,10 +2,13 @@ pub mod TextLaws
 pub mod CutLaws
 pub mod SetLaws
 pub mod RegularLaws
-pub mod RunLaws
+pub mod KeyTests
+pub mod OrderLaws
+pub mod PutLaws
+pub mod GatherLaws
 pub mod FormLaws
+pub mod SetForms
 pub mod BuiltInLaws
-pub mod MemberLaws
 pub mod NumberLaws
 pub mod ByteLaws
 pub mod SingleLaws

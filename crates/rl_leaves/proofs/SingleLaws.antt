@@ -6,20 +6,11 @@ use Rattle.rl_types.specs.declared.alphabet.Alphabet.{Alphabet}
 use Rattle.rl_types.specs.KeyRange.{in_range}
 use Rattle.rl_leaves.specs.CharacterSets.{byte_key, is_upper, is_lower, other_case, is_named}
 use Rattle.rl_leaves.specs.Ranges.{only, in_ranges, character_ranges}
-use Rattle.rl_leaves.proofs.MemberLaws.{order}
+use Rattle.rl_leaves.proofs.KeyTests.{le_from, le_to, not_le, order, or_false}
 
 -- a key is a key
 at : ℤ → ℤ → Bool
 at q k = in_range q (only k)
-
-le_from : (x k : ℤ) → int_le x k ≡ true → x ≤ℤ k
-le_from x k h = grind (arith, ints)
-
-le_to : (x k : ℤ) → x ≤ℤ k → int_le x k ≡ true
-le_to x k h = grind (arith, ints)
-
-not_le : (x k : ℤ) → k <ℤ x → int_le x k ≡ false
-not_le x k h = grind (arith, ints)
 
 and_false : (a : Bool) → (a && false) ≡ false
 and_false true = refl
@@ -49,10 +40,6 @@ and_swapped false false e = refl
 flipped : (q k : ℤ) → at k q ≡ false → at q k ≡ false
 unfolding at
 flipped q k e = and_swapped (int_le q k) (int_le k q) e
-
-or_false : (x : Bool) → (x || false) ≡ x
-or_false true = refl
-or_false false = refl
 
 or_same : (x : Bool) → (x || x) ≡ x
 or_same true = refl

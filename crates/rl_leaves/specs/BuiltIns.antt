@@ -1,7 +1,8 @@
 -- The built-in machines (the guide's section 2.3.1); `cntrl` and `null` as this profile has them.
-use Rattle.std.specs.Prelude.{ℕ, pos, if◌then◌else◌, Option, Some, None, List, [], ◌∷◌, codes}
+use Rattle.std.specs.Prelude.{ℕ, pos, negsuc, if◌then◌else◌, Option, Some, None, List, [], ◌∷◌, codes}
 use Rattle.std.specs.Str.{bytes_eq}
 use Rattle.rl_types.specs.declared.alphabet.Alphabet.{Alphabet}
+use Rattle.rl_types.specs.declared.alphabet.Alphabet.TheVariants.{Char, UnsignedChar, Short, UnsignedShort, Int, UnsignedInt}
 use Rattle.rl_types.specs.KeyRange.{Range}
 use Rattle.rl_draft.specs.declared.expression.Leaf.{Leaf}
 use Rattle.rl_draft.specs.declared.expression.Leaf.TheVariants as leaf
@@ -28,10 +29,19 @@ built_in_named text = named_in names text
 abbrev pub codes_between : ℕ → ℕ → Range
 codes_between first last = record { lo = pos first; hi = pos last }
 
+-- what one byte can say under the alphabet
+abbrev pub byte_range : Alphabet → Range
+byte_range Char = record { lo = negsuc 127; hi = pos 127 }
+byte_range Short = record { lo = negsuc 127; hi = pos 127 }
+byte_range Int = record { lo = negsuc 127; hi = pos 127 }
+byte_range UnsignedChar = codes_between 0 255
+byte_range UnsignedShort = codes_between 0 255
+byte_range UnsignedInt = codes_between 0 255
+
 abbrev pub built_in_leaf : Alphabet → BuiltIn → Leaf
 built_in_leaf alphabet b.Any = leaf.Set (every_key alphabet)
 built_in_leaf alphabet b.Ascii = leaf.Set (codes_between 0 127 ∷ [])
-built_in_leaf alphabet b.Extend = leaf.Set (every_key alphabet)
+built_in_leaf alphabet b.Extend = leaf.Set (byte_range alphabet ∷ [])
 built_in_leaf alphabet b.Alpha = leaf.Set (codes_between 65 90 ∷ codes_between 97 122 ∷ [])
 built_in_leaf alphabet b.Digit = leaf.Set (codes_between 48 57 ∷ [])
 built_in_leaf alphabet b.Alnum = leaf.Set (codes_between 48 57 ∷ codes_between 65 90 ∷ codes_between 97 122 ∷ [])

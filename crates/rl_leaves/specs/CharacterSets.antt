@@ -1,5 +1,5 @@
 -- Sets of characters as they are written, and the keys that they have.
-use Rattle.std.specs.Prelude.{ℕ, Bool, true, false, ◌&&◌, ◌||◌, not, if◌then◌else◌, ℤ, pos, ◌+ℤ◌, ◌-ℤ◌, int_lt, int_le, Option, Some, None, is_some, List, [], ◌∷◌, drop}
+use Rattle.std.specs.Prelude.{ℕ, Bool, true, false, ◌&&◌, ◌||◌, not, if◌then◌else◌, ◌%◌, ℤ, pos, ◌+ℤ◌, ◌-ℤ◌, int_lt, int_le, Option, Some, None, is_some, List, [], ◌∷◌, drop}
 use Rattle.std.specs.List.{list_any}
 use Rattle.rl_types.specs.declared.alphabet.Alphabet.{Alphabet}
 use Rattle.rl_types.specs.Alphabet.{key_of}
@@ -51,8 +51,9 @@ is_empty_word s = not s.is_negated && has_none s.spans
 
 -- ---- the keys
 
+-- the key of a byte; of a larger number its low byte counts
 abbrev pub byte_key : Alphabet → ℕ → ℤ
-byte_key alphabet b = (key_of alphabet b).0
+byte_key alphabet b = (key_of alphabet (b % 256)).0
 
 abbrev pub range_of : Alphabet → Span → Range
 range_of alphabet s = record { lo = byte_key alphabet s.lower; hi = byte_key alphabet s.upper }

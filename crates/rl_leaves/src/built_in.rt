@@ -2,12 +2,10 @@
 ghost use Rattle.std.specs.Prelude.{◌≡◌, ◌∷◌, [], ◌≤◌, IfOk, is_some};
 ghost use Rattle.rl_types.specs.Alphabet.{least_key, greatest_key};
 ghost use Rattle.rl_draft.specs.declared.expression.Leaf.TheVariants as leaf;
-ghost use Rattle.rl_leaves.specs.BuiltIns.{codes_between, built_in_named, built_in_leaf};
+ghost use Rattle.rl_leaves.specs.BuiltIns.{codes_between, byte_range, built_in_named, built_in_leaf};
 ghost use Rattle.rl_leaves.specs.Forms.{IsLeaf};
-ghost use Rattle.rl_leaves.specs.Ranges.{every_key};
 
-use crate::key::greatest_key;
-use crate::ranges::{least_key, range_between};
+use crate::ranges::range_between;
 use rl_draft::Leaf;
 use rl_types::{Alphabet, KeyRange, List, Memory};
 use std::alloc::Global;
@@ -19,7 +17,7 @@ pub enum BuiltIn {
     Any,
     /// `ascii`: 0 to 127
     Ascii,
-    /// `extend`: -128 to 127 or 0 to 255, which is any character
+    /// `extend`: -128 to 127 under a signed alphabet, 0 to 255 under an unsigned one
     Extend,
     /// `alpha`: ASCII letters
     Alpha,
@@ -109,6 +107,23 @@ fn codes(first: u8, last: u8) -> KeyRange
     range_between(i64::from(first), i64::from(last))
 }
 
+/// All keys.
+fn every_key(alphabet: Alphabet) -> KeyRange
+    ensures { result ≡ record { lo = least_key alphabet; hi = greatest_key alphabet } }
+{
+    range_between(alphabet.least_key(), alphabet.greatest_key())
+}
+
+/// What one byte can say under the alphabet.
+fn byte_range(alphabet: Alphabet) -> KeyRange
+    ensures { result ≡ byte_range alphabet }
+{
+    match alphabet {
+        Alphabet::Char | Alphabet::Short | Alphabet::Int => range_between(-128, 127),
+        Alphabet::UnsignedChar | Alphabet::UnsignedShort | Alphabet::UnsignedInt => codes(0, 255),
+    }
+}
+
 /// A character of these ranges. An `Err` is want of memory.
 fn set_of(alloc: Global, ranges: &[KeyRange]) -> Result<Leaf, Memory>
     ensures { IfOk result (λ made. made ≡ leaf.Set ranges.now) }
@@ -123,10 +138,8 @@ fn keys_of(alloc: Global, alphabet: Alphabet, built_in: BuiltIn) -> Result<Leaf,
     ensures { IfOk result (λ made. made ≡ built_in_leaf alphabet built_in) }
 {
     match built_in {
-        BuiltIn::Any | BuiltIn::Extend => {
-            let every_key = range_between(least_key(alphabet), greatest_key(alphabet));
-            set_of(alloc, &[every_key])
-        }
+        BuiltIn::Any => set_of(alloc, &[every_key(alphabet)]),
+        BuiltIn::Extend => set_of(alloc, &[byte_range(alphabet)]),
         BuiltIn::Ascii => set_of(alloc, &[codes(0, 127)]),
         BuiltIn::Alpha => set_of(alloc, &[codes(b'A', b'Z'), codes(b'a', b'z')]),
         BuiltIn::Digit => set_of(alloc, &[codes(b'0', b'9')]),

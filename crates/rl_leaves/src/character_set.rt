@@ -1,11 +1,10 @@
 // Sets of characters as they are written.
 ghost use Rattle.std.specs.Prelude.{◌≡◌, drop, IfOk};
-ghost use Rattle.rl_types.specs.KeyRange.{in_range};
-ghost use Rattle.rl_leaves.specs.CharacterSets.{has_none, is_upper, is_lower, upper_end, span_at, behind_span, spans, set_of, every_character, is_empty_word, byte_key, range_of, is_reversed, set_is_reversed, other_case, in_spans, is_named, has};
+ghost use Rattle.rl_leaves.specs.CharacterSets.{has_none, is_upper, is_lower, upper_end, span_at, behind_span, spans, set_of, every_character, is_empty_word, byte_key, range_of, is_reversed, set_is_reversed, other_case};
 
 use crate::memory::push;
 use crate::text::{Character, begins_with, is_plain, without};
-use rl_types::{Alphabet, Key, List, Memory};
+use rl_types::{Alphabet, List, Memory};
 use std::alloc::Global;
 
 /// The characters from one to another; one character where both are the same.
@@ -112,8 +111,8 @@ pub fn every_character(alloc: Global) -> CharacterSet
 }
 
 impl CharacterSet {
-    ghost use Rattle.std.specs.Prelude.{◌≡◌, false};
-    ghost use Rattle.rl_leaves.specs.CharacterSets.{is_empty_word, set_is_reversed, has};
+    ghost use Rattle.std.specs.Prelude.{◌≡◌};
+    ghost use Rattle.rl_leaves.specs.CharacterSets.{is_empty_word, set_is_reversed};
 
     /// Whether it is `[]`, which stands for the empty word.
     pub fn is_empty_word(&self) -> bool
@@ -130,14 +129,6 @@ impl CharacterSet {
             .as_slice()
             .iter()
             .any(|span| is_reversed(alphabet, *span))
-    }
-
-    /// Whether it has a key.
-    pub fn has(&self, alphabet: Alphabet, folds: bool, key: Key) -> bool
-        ensures { result ≡ has alphabet folds self.now key.0 }
-    {
-        let is_named = is_named(alphabet, folds, self.spans.as_slice(), key.0);
-        if self.is_negated { !is_named } else { is_named }
     }
 }
 
@@ -157,6 +148,7 @@ pub fn byte_key(alphabet: Alphabet, byte: u8) -> i64
     alphabet.key_of(byte).0
 }
 
+/// Whether the lower end is above the upper one.
 fn is_reversed(alphabet: Alphabet, span: Span) -> bool
     ensures { result ≡ is_reversed alphabet span }
 {
@@ -188,23 +180,4 @@ pub fn other_case(key: i64) -> i64
     } else {
         key
     }
-}
-
-fn in_span(alphabet: Alphabet, span: Span, key: i64) -> bool
-    ensures { result ≡ in_range key (range_of alphabet span) }
-{
-    byte_key(alphabet, span.lower) <= key && key <= byte_key(alphabet, span.upper)
-}
-
-fn in_spans(alphabet: Alphabet, spans: &[Span], key: i64) -> bool
-    ensures { result ≡ in_spans alphabet spans.now key }
-{
-    spans.iter().any(|span| in_span(alphabet, *span, key))
-}
-
-/// Whether a range has the key or, where case is ignored, the key in the other case.
-fn is_named(alphabet: Alphabet, folds: bool, spans: &[Span], key: i64) -> bool
-    ensures { result ≡ is_named alphabet folds spans.now key }
-{
-    in_spans(alphabet, spans, key) || (folds && in_spans(alphabet, spans, other_case(key)))
 }

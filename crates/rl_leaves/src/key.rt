@@ -1,32 +1,22 @@
 // Keys that numbers and literals write, and the ranges between them.
 ghost use Rattle.std.specs.Prelude.{◌≡◌, ◌≤ℤ◌, ◌∷◌, [], true, false, IfOk};
 ghost use Rattle.rl_draft.specs.declared.expression.Leaf.TheVariants as leaf;
-ghost use Rattle.rl_types.specs.Alphabet.{greatest_key, has_key};
+ghost use Rattle.rl_types.specs.Alphabet.{has_key};
 ghost use Rattle.rl_leaves.specs.Answers.{Gives};
 ghost use Rattle.rl_leaves.specs.Forms.{IsLeaf};
 ghost use Rattle.rl_leaves.specs.Keys.{first_key, character_key, key_leaf, range_leaf};
 
 use crate::fault::{KeyFault, LeafFault};
-use crate::ranges::{least_key, one_range, range_between};
+use crate::ranges::{one_range, range_between};
 use crate::text::{Character, characters, inside};
 use rl_draft::Leaf;
 use rl_types::{Alphabet, Key, Memory};
 use std::alloc::Global;
 
-/// The greatest key of an alphabet.
-pub fn greatest_key(alphabet: Alphabet) -> i64
-    ensures { result ≡ greatest_key alphabet }
-{
-    match alphabet {
-        Alphabet::Char => 127,
-        Alphabet::UnsignedChar => 255,
-    }
-}
-
 fn has_key(alphabet: Alphabet, key: Key) -> bool
     ensures { result ≡ has_key alphabet key.0 }
 {
-    least_key(alphabet) <= key.0 && key.0 <= greatest_key(alphabet)
+    alphabet.least_key() <= key.0 && key.0 <= alphabet.greatest_key()
 }
 
 fn between(alloc: Global, lo: Key, hi: Key) -> Result<Leaf, Memory>

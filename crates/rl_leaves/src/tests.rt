@@ -73,6 +73,12 @@ fn sets_have_keys(rt: HostRuntime) {
     assert!(rt; gives_set(set_leaf(alloc, CHAR, b"[cab]"), &[(97, 99)]));
     assert!(rt; gives_set(set_leaf(alloc, CHAR, b"[^a]"), &[(-128, 96), (98, 127)]));
     assert!(rt; gives_set(set_leaf(alloc, UNSIGNED, b"[^a]"), &[(0, 96), (98, 255)]));
+    assert!(rt;
+        gives_set(
+            set_leaf(alloc, Alphabet::Short, b"[^a]"),
+            &[(-32_768, 96), (98, 32_767)]
+        )
+    );
     assert!(rt; gives_set(set_leaf(alloc, CHAR, b"[^]"), &[(-128, 127)]));
     assert!(rt;
         gives_set(
@@ -172,6 +178,12 @@ fn numbers_are_keys(rt: HostRuntime) {
     assert!(rt; is_refused(key_leaf(alloc, CHAR, Key(-129)), KeyFault::Outside));
     assert!(rt; is_refused(key_leaf(alloc, CHAR, Key(128)), KeyFault::Outside));
     assert!(rt; gives_set(key_leaf(alloc, UNSIGNED, Key(128)), &[(128, 128)]));
+    assert!(rt;
+        is_refused(
+            key_leaf(alloc, Alphabet::Short, Key(32_768)),
+            KeyFault::Outside
+        )
+    );
     assert!(rt; gives_set(range_leaf(alloc, CHAR, Key(-1), Key(9)), &[(-1, 9)]));
     assert!(rt; is_refused(range_leaf(alloc, CHAR, Key(9), Key(1)), KeyFault::Reversed));
     assert!(rt; is_refused(range_leaf(alloc, CHAR, Key(300), Key(1)), KeyFault::Outside));
@@ -231,6 +243,12 @@ fn names_are_built_in(rt: HostRuntime) {
         makes_set(
             built_in_leaf(rt.alloc(), UNSIGNED, BuiltIn::Extend),
             &[(0, 255)]
+        )
+    );
+    assert!(rt;
+        makes_set(
+            built_in_leaf(rt.alloc(), Alphabet::Int, BuiltIn::Extend),
+            &[(-128, 127)]
         )
     );
 }
