@@ -42,7 +42,8 @@ ends_is high (r ∷ rs) h =
 computed : (alphabet : Alphabet) (low high : ℤ) (rs : List Range) → (least_key alphabet ≤ℤ low) × (high ≤ℤ (greatest_key alphabet +ℤ pos 1))
     → ascends low rs ≡ true → ends_before high rs ≡ true → nat_le (length rs) 256 ≡ true → AreRanges alphabet rs
 computed alphabet low high rs fits a e f =
-    form_from alphabet rs (lower (least_key alphabet) low rs fits.0 (ascends_is low rs a)) (higher (greatest_key alphabet +ℤ pos 1) high rs fits.1 (ends_is high rs e))
+    form_from alphabet rs (lower (least_key alphabet) low rs fits.0 (ascends_is low rs a))
+    (higher (greatest_key alphabet +ℤ pos 1) high rs fits.1 (ends_is high rs e))
     (leb-true (length rs) 256 f)
 
 ascii_fits : (alphabet : Alphabet) → (least_key alphabet ≤ℤ pos 0) × (pos 128 ≤ℤ (greatest_key alphabet +ℤ pos 1))
@@ -52,7 +53,8 @@ ascii_fits alphabet =
     (bounds.0, omega (arith, ints))
 
 -- keys from 0 to 127
-ascii : (alphabet : Alphabet) (rs : List Range) → ascends (pos 0) rs ≡ true → ends_before (pos 128) rs ≡ true → nat_le (length rs) 256 ≡ true → AreRanges alphabet rs
+ascii : (alphabet : Alphabet) (rs : List Range) → ascends (pos 0) rs ≡ true → ends_before (pos 128) rs ≡ true
+    → nat_le (length rs) 256 ≡ true → AreRanges alphabet rs
 ascii alphabet rs = computed alphabet (pos 0) (pos 128) rs (ascii_fits alphabet)
 
 any_form : (alphabet : Alphabet) → IsLeaf alphabet (built_in_leaf alphabet b.Any)

@@ -1,5 +1,6 @@
 -- The ranges of spans: they lie among the keys of bytes, and have the keys that the spans name.
-use Rattle.std.proofs.Common.{◌≡◌, ℕ, ◌-◌, ◌<◌, ◌≤◌, ◌%◌, Bool, true, false, cond, ◌&&◌, ◌||◌, ◌⊎◌, ℤ, pos, negsuc, ◌+ℤ◌, ◌-ℤ◌, ◌≤ℤ◌, ◌<ℤ◌, int_le, int_lt, List, [], ◌∷◌, refl, sym, ap, subst, ◌∙◌, inl, inr, arith, ltb-true, ltb-false, mod-lt}
+use Rattle.std.proofs.Common.{◌≡◌, ℕ, ◌-◌, ◌<◌, ◌≤◌, ◌%◌, Bool, true, false, cond, ◌&&◌, ◌||◌, ◌⊎◌, ℤ, pos, negsuc, ◌+ℤ◌, ◌-ℤ◌}
+use Rattle.std.proofs.Common.{◌≤ℤ◌, ◌<ℤ◌, int_le, List, [], ◌∷◌, refl, sym, ap, subst, ◌∙◌, inl, inr, arith, ltb-true, ltb-false, mod-lt}
 use Rattle.std.specs.Prelude.{nat_lt, IfSome, Option, Some, None}
 use Rattle.std.specs.Int.{int_min, int_max}
 use Rattle.std.proofs.lemmas.Int.{ints, clamps, by_lt_z}
@@ -86,7 +87,8 @@ part_to first last by q r h =
     let a : (int_max r.lo first +ℤ by) ≤ℤ q = k.0 in
     let b : q ≤ℤ (int_min r.hi last +ℤ by) = k.1 in
     and_from (int_le (first +ℤ by) q && int_le q (last +ℤ by)) (in_range (q -ℤ by) r)
-    (and_from (int_le (first +ℤ by) q) (int_le q (last +ℤ by)) (le_to (first +ℤ by) q (omega (arith, ints, clamps))) (le_to q (last +ℤ by) (omega (arith, ints, clamps))))
+    (and_from (int_le (first +ℤ by) q) (int_le q (last +ℤ by)) (le_to (first +ℤ by) q (omega (arith, ints, clamps)))
+    (le_to q (last +ℤ by) (omega (arith, ints, clamps))))
     (inside (q -ℤ by) r (omega (arith, ints, clamps)) (omega (arith, ints, clamps)))
 
 part_from : (first last by q : ℤ) (r : Range) → ((int_le (first +ℤ by) q && int_le q (last +ℤ by)) && in_range (q -ℤ by) r) ≡ true

@@ -1,5 +1,6 @@
 -- Ranges put among others: they ascend, and have the keys of both.
-use Rattle.std.proofs.Common.{◌≡◌, ℕ, ◌+◌, ◌<◌, ◌≤◌, Bool, true, false, cond, ◌&&◌, ◌||◌, ◌⊎◌, ℤ, pos, ◌+ℤ◌, ◌-ℤ◌, ◌≤ℤ◌, ◌<ℤ◌, int_le, int_lt, List, [], ◌∷◌, ◌++◌, length, drop, get_or, refl, sym, ap, ◌∙◌, inl, inr, arith, append_assoc}
+use Rattle.std.proofs.Common.{◌≡◌, ℕ, ◌+◌, ◌<◌, ◌≤◌, Bool, true, false, cond, ◌||◌, ℤ, pos, ◌+ℤ◌, ◌-ℤ◌, ◌≤ℤ◌, ◌<ℤ◌}
+use Rattle.std.proofs.Common.{List, [], ◌∷◌, ◌++◌, length, drop, get_or, refl, sym, ap, ◌∙◌, inl, inr, arith, append_assoc}
 use Rattle.std.specs.Prelude.{Option, Some, None, option_to_list}
 use Rattle.std.specs.Int.{int_min, int_max}
 use Rattle.std.proofs.lemmas.Int.{ints, clamps}
@@ -52,7 +53,8 @@ put_ends whole found found' held rs i l f inv =
 -- ---- the loop that puts spans
 
 pub spans_turn : (alphabet : Alphabet) (folds : Bool) (whole rs rs' : List Range) (ss : List Span) (i : ℕ) (d : Span) → i < length ss
-    → rs' ≡ put_span alphabet folds (get_or ss i d) rs → put_spans alphabet folds (drop i ss) rs ≡ whole → put_spans alphabet folds (drop (i + 1) ss) rs' ≡ whole
+    → rs' ≡ put_span alphabet folds (get_or ss i d) rs → put_spans alphabet folds (drop i ss) rs ≡ whole
+    → put_spans alphabet folds (drop (i + 1) ss) rs' ≡ whole
 unfolding put_spans
 spans_turn alphabet folds whole rs rs' ss i d l e inv =
     rw e (ap (λ z. put_spans alphabet folds z rs) (sym (drop_more ss i d l)) ∙ inv)

@@ -1,5 +1,6 @@
 -- The ranges of sets: their form and their keys.
-use Rattle.std.proofs.Common.{◌≡◌, ℕ, ◌+◌, ◌*◌, ◌≤◌, Bool, true, false, cond, ◌&&◌, ◌||◌, ◌⊎◌, not, ℤ, pos, negsuc, ◌+ℤ◌, ◌-ℤ◌, ◌≤ℤ◌, ◌<ℤ◌, int_le, List, [], ◌∷◌, ◌++◌, length, refl, sym, ap, subst, ◌∙◌, inl, inr, arith}
+use Rattle.std.proofs.Common.{◌≡◌, ◌+◌, ◌≤◌, Bool, true, false, cond, ◌&&◌, ◌||◌, ◌⊎◌, not, ℤ, pos, ◌+ℤ◌, ◌-ℤ◌, ◌≤ℤ◌}
+use Rattle.std.proofs.Common.{◌<ℤ◌, int_le, List, [], ◌∷◌, ◌++◌, length, refl, sym, ap, subst, ◌∙◌, inl, inr, arith}
 use Rattle.std.specs.Prelude.{Option, Some, None, option_to_list}
 use Rattle.std.proofs.lemmas.Int.{ints, by_lt_z}
 use Rattle.rl_types.specs.declared.alphabet.Alphabet.{Alphabet}
@@ -66,14 +67,16 @@ left_ascend before after (r ∷ rs) h =
     let second : r.lo ≤ℤ r.hi = h.1 in
     let rest : Ascend (r.hi +ℤ pos 1) (left_out r.hi after rs) =
     left_ascend r.hi after rs (lower (r.hi +ℤ pos 1) (r.hi +ℤ pos 2) rs (omega (arith, ints)) h.2) in
-    gap_ascend (before +ℤ pos 1) (before +ℤ pos 1) (r.lo -ℤ pos 1) (left_out r.hi after rs) (int_le (before +ℤ pos 1) (r.lo -ℤ pos 1)) refl (omega (arith, ints))
+    gap_ascend (before +ℤ pos 1) (before +ℤ pos 1) (r.lo -ℤ pos 1) (left_out r.hi after rs) (int_le (before +ℤ pos 1) (r.lo -ℤ pos 1)) refl
+    (omega (arith, ints))
     (lower ((r.lo -ℤ pos 1) +ℤ pos 2) (r.hi +ℤ pos 1) (left_out r.hi after rs) (omega (arith, ints)) rest)
     (lower (before +ℤ pos 1) (r.hi +ℤ pos 1) (left_out r.hi after rs) (omega (arith, ints)) rest)
 
 left_end : (low before after : ℤ) (rs : List Range) → Ascend low rs → EndBefore after rs → EndBefore after (left_out before after rs)
 unfolding left_out
 left_end low before after [] h e =
-    subst (EndBefore after) (sym (left_nil before after)) (gap_end after (before +ℤ pos 1) (after -ℤ pos 1) [] (int_le (before +ℤ pos 1) (after -ℤ pos 1)) (omega (arith, ints)) tt)
+    subst (EndBefore after) (sym (left_nil before after))
+    (gap_end after (before +ℤ pos 1) (after -ℤ pos 1) [] (int_le (before +ℤ pos 1) (after -ℤ pos 1)) (omega (arith, ints)) tt)
 left_end low before after (r ∷ rs) h e =
     let second : r.lo ≤ℤ r.hi = h.1 in
     let third : r.hi <ℤ after = e.0 in
@@ -137,7 +140,8 @@ module _ (alphabet : Alphabet) (folds : Bool) (ss : List Span) where
   -- at most one range for two bytes
   named_few : length named ≤ 128
   named_few =
-      let count = few (byte_least alphabet) (byte_end alphabet) named (omega (arith, ints)) (named_gathered alphabet folds ss).ascend (named_gathered alphabet folds ss).ends in
+      let count =
+      few (byte_least alphabet) (byte_end alphabet) named (omega (arith, ints)) (named_gathered alphabet folds ss).ascend (named_gathered alphabet folds ss).ends in
       omega (arith, ints, count)
 
   least_behind : (least_key alphabet -ℤ pos 1) +ℤ pos 1 ≡ least_key alphabet

@@ -2,7 +2,8 @@
 use Rattle.std.specs.Prelude.{ℕ, pos, negsuc, if◌then◌else◌, Option, Some, None, List, [], ◌∷◌, codes}
 use Rattle.std.specs.Str.{bytes_eq}
 use Rattle.rl_types.specs.declared.alphabet.Alphabet.{Alphabet}
-use Rattle.rl_types.specs.declared.alphabet.Alphabet.TheVariants.{Char, UnsignedChar, Short, UnsignedShort, Int, UnsignedInt}
+use Rattle.rl_types.specs.declared.alphabet.Alphabet.TheVariants.{Char, Short, Int}
+use Rattle.rl_types.specs.declared.alphabet.Alphabet.TheVariants.{UnsignedChar, UnsignedShort, UnsignedInt}
 use Rattle.rl_types.specs.KeyRange.{Range}
 use Rattle.rl_draft.specs.declared.expression.Leaf.{Leaf}
 use Rattle.rl_draft.specs.declared.expression.Leaf.TheVariants as leaf
@@ -47,7 +48,8 @@ built_in_leaf alphabet b.Digit = leaf.Set (codes_between 48 57 ∷ [])
 built_in_leaf alphabet b.Alnum = leaf.Set (codes_between 48 57 ∷ codes_between 65 90 ∷ codes_between 97 122 ∷ [])
 built_in_leaf alphabet b.Lower = leaf.Set (codes_between 97 122 ∷ [])
 built_in_leaf alphabet b.Upper = leaf.Set (codes_between 65 90 ∷ [])
-built_in_leaf alphabet b.Punct = leaf.Set (codes_between 33 47 ∷ codes_between 58 64 ∷ codes_between 91 96 ∷ codes_between 123 126 ∷ [])
+built_in_leaf alphabet b.Punct =
+    leaf.Set (codes_between 33 47 ∷ codes_between 58 64 ∷ codes_between 91 96 ∷ codes_between 123 126 ∷ [])
 built_in_leaf alphabet b.Graph = leaf.Set (codes_between 33 126 ∷ [])
 built_in_leaf alphabet b.Print = leaf.Set (codes_between 32 126 ∷ [])
 built_in_leaf alphabet b.Space = leaf.Set (codes_between 9 13 ∷ codes_between 32 32 ∷ [])

@@ -1,5 +1,6 @@
 -- Sets of characters as they are written, and the keys that they have.
-use Rattle.std.specs.Prelude.{ℕ, Bool, true, false, ◌&&◌, ◌||◌, not, if◌then◌else◌, ◌%◌, ℤ, pos, ◌+ℤ◌, ◌-ℤ◌, int_lt, int_le, Option, Some, None, is_some, List, [], ◌∷◌, drop}
+use Rattle.std.specs.Prelude.{ℕ, Bool, true, false, ◌&&◌, ◌||◌, not, if◌then◌else◌, ◌%◌, ℤ, pos}
+use Rattle.std.specs.Prelude.{◌+ℤ◌, ◌-ℤ◌, int_lt, int_le, Option, Some, None, is_some, List, [], ◌∷◌, drop}
 use Rattle.std.specs.List.{list_any}
 use Rattle.rl_types.specs.declared.alphabet.Alphabet.{Alphabet}
 use Rattle.rl_types.specs.Alphabet.{key_of}
@@ -86,4 +87,5 @@ is_named alphabet folds ss key = in_spans alphabet ss key || (folds && in_spans 
 
 -- the set has the key
 abbrev pub has : Alphabet → Bool → CharacterSet → ℤ → Bool
-has alphabet folds s key = if s.is_negated then not (is_named alphabet folds s.spans key) else is_named alphabet folds s.spans key
+has alphabet folds s key =
+    if s.is_negated then not (is_named alphabet folds s.spans key) else is_named alphabet folds s.spans key

@@ -1,5 +1,6 @@
 -- Keys gathered in ranges, which ascend, and neither overlap nor adjoin.
-use Rattle.std.specs.Prelude.{ℕ, Bool, true, false, ◌&&◌, if◌then◌else◌, ℤ, pos, negsuc, ◌+ℤ◌, ◌-ℤ◌, int_le, int_lt, Option, Some, None, option_to_list, List, [], ◌∷◌, ◌++◌}
+use Rattle.std.specs.Prelude.{ℕ, Bool, ◌&&◌, if◌then◌else◌, ℤ, pos, negsuc, ◌+ℤ◌, ◌-ℤ◌, int_le, int_lt}
+use Rattle.std.specs.Prelude.{Option, Some, None, option_to_list, List, [], ◌∷◌, ◌++◌}
 use Rattle.std.specs.Int.{int_min, int_max}
 use Rattle.std.specs.List.{list_any}
 use Rattle.rl_types.specs.declared.alphabet.Alphabet.{Alphabet}
@@ -60,7 +61,8 @@ moved by (Some r) = Some (record { lo = r.lo +ℤ by; hi = r.hi +ℤ by })
 
 -- the ASCII letters of a range put among others in the other case
 abbrev pub put_letters : Range → List Range → List Range
-put_letters r rs = put_some (moved (negsuc 31) (part (pos 97) (pos 122) r)) (put_some (moved (pos 32) (part (pos 65) (pos 90) r)) rs)
+put_letters r rs =
+    put_some (moved (negsuc 31) (part (pos 97) (pos 122) r)) (put_some (moved (pos 32) (part (pos 65) (pos 90) r)) rs)
 
 -- a range put among others; where case is ignored, its letters also in the other case
 abbrev pub put_cases : Bool → Range → List Range → List Range
@@ -94,7 +96,8 @@ complement alphabet rs = left_out (least_key alphabet -ℤ pos 1) (greatest_key 
 -- the ranges of a set of characters
 abbrev pub set_ranges : Alphabet → Bool → CharacterSet → List Range
 set_ranges alphabet folds s =
-    if s.is_negated then complement alphabet (put_spans alphabet folds s.spans []) else put_spans alphabet folds s.spans []
+    if s.is_negated then complement alphabet (put_spans alphabet folds s.spans []) else
+    put_spans alphabet folds s.spans []
 
 -- ---- other ranges
 

@@ -1,8 +1,11 @@
 // Keys gathered in ranges.
-ghost use Rattle.std.specs.Prelude.{◌≡◌, ◌++◌, ◌∷◌, [], ℤ, ◌≤ℤ◌, ◌+ℤ◌, ◌-ℤ◌, pos, negsuc, ◌&&◌, if◌then◌else◌, IfSome, IfOk, option_to_list};
+ghost use Rattle.std.specs.Prelude.{◌≡◌, ◌++◌, ◌∷◌, [], ℤ, ◌≤ℤ◌, ◌+ℤ◌};
+ghost use Rattle.std.specs.Prelude.{◌-ℤ◌, pos, negsuc, ◌&&◌, if◌then◌else◌, IfSome, IfOk, option_to_list};
 ghost use Rattle.rl_types.specs.Alphabet.{least_key, greatest_key, has_key};
 ghost use Rattle.rl_leaves.specs.CharacterSets.{other_case, has};
-ghost use Rattle.rl_leaves.specs.Ranges.{set_ranges, in_ranges, only, character_ranges, is_before, joined, put, put_some, from_to, part, moved, put_letters, put_cases, put_range, span_range, put_span, put_spans, left_out, complement, emitted, held_behind};
+ghost use Rattle.rl_leaves.specs.Ranges.{set_ranges, in_ranges, only, character_ranges, is_before, joined, put, put_some};
+ghost use Rattle.rl_leaves.specs.Ranges.{from_to, part, moved, put_letters, put_cases, put_range, span_range, put_span};
+ghost use Rattle.rl_leaves.specs.Ranges.{put_spans, left_out, complement, emitted, held_behind};
 ghost use Rattle.rl_leaves.specs.Forms.{AreRanges};
 
 use crate::character_set::{CharacterSet, Span, byte_key, is_lower, is_upper, other_case};
@@ -405,7 +408,8 @@ pub fn set_ranges(
 ) -> Result<List<KeyRange>, Memory>
     ensures value { IfOk result (λ ranges. ranges ≡ set_ranges alphabet folds set.now) }
     ensures form { IfOk result (AreRanges alphabet) }
-    ensures keys { IfOk result (λ ranges. (key : ℤ) → in_ranges key ranges ≡ (has_key alphabet key && has alphabet folds set.now key)) }
+    ensures keys { IfOk result (λ ranges. (key : ℤ) → in_ranges key ranges
+        ≡ (has_key alphabet key && has alphabet folds set.now key)) }
 {
     ranges_of(alloc, alphabet, folds, set)
 }
