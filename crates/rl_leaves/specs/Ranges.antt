@@ -93,11 +93,13 @@ left_out before behind (r ∷ rs) = option_to_list (from_to (before +ℤ pos 1) 
 abbrev pub complement : Alphabet → List Range → List Range
 complement alphabet rs = left_out (least_key alphabet -ℤ pos 1) (greatest_key alphabet +ℤ pos 1) rs
 
+-- what a `^` makes of ranges
+abbrev pub negated : Alphabet → Bool → List Range → List Range
+negated alphabet is_negated rs = if is_negated then complement alphabet rs else rs
+
 -- the ranges of a set of characters
 abbrev pub set_ranges : Alphabet → Bool → CharacterSet → List Range
-set_ranges alphabet folds s =
-    if s.is_negated then complement alphabet (put_spans alphabet folds s.spans []) else
-    put_spans alphabet folds s.spans []
+set_ranges alphabet folds s = negated alphabet s.is_negated (put_spans alphabet folds s.spans [])
 
 -- ---- other ranges
 

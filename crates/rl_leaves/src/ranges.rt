@@ -1,11 +1,11 @@
 // Keys gathered in ranges.
 ghost use Rattle.std.specs.Prelude.{◌≡◌, ◌++◌, ◌∷◌, [], ℤ, ◌≤ℤ◌, ◌+ℤ◌};
-ghost use Rattle.std.specs.Prelude.{◌-ℤ◌, pos, negsuc, ◌&&◌, if◌then◌else◌, IfSome, IfOk, option_to_list};
+ghost use Rattle.std.specs.Prelude.{◌-ℤ◌, pos, negsuc, ◌&&◌, IfSome, IfOk, option_to_list};
 ghost use Rattle.rl_types.specs.Alphabet.{least_key, greatest_key, has_key};
 ghost use Rattle.rl_leaves.specs.CharacterSets.{other_case, has};
 ghost use Rattle.rl_leaves.specs.Ranges.{set_ranges, in_ranges, only, character_ranges, is_before, joined, put, put_some};
 ghost use Rattle.rl_leaves.specs.Ranges.{from_to, part, moved, put_letters, put_cases, put_range, span_range, put_span};
-ghost use Rattle.rl_leaves.specs.Ranges.{put_spans, left_out, complement, emitted, held_behind};
+ghost use Rattle.rl_leaves.specs.Ranges.{put_spans, left_out, complement, negated, emitted, held_behind};
 ghost use Rattle.rl_leaves.specs.Forms.{AreRanges};
 
 use crate::character_set::{CharacterSet, Span, byte_key, is_lower, is_upper, other_case};
@@ -371,13 +371,14 @@ fn complement(
     )
 }
 
-fn complement_if(
+/// What a `^` makes of ranges.
+fn negated(
     alloc: Global,
     alphabet: Alphabet,
     is_negated: bool,
     ranges: List<KeyRange>,
 ) -> Result<List<KeyRange>, Memory>
-    ensures { IfOk result (λ all. all ≡ if is_negated then complement alphabet ranges else ranges) }
+    ensures { IfOk result (λ all. all ≡ negated alphabet is_negated ranges) }
 {
     if is_negated {
         complement(alloc, alphabet, ranges.as_slice())
@@ -396,7 +397,7 @@ fn ranges_of(
     ensures { IfOk result (λ ranges. ranges ≡ set_ranges alphabet folds set.now) }
 {
     let named = put_spans(alloc, alphabet, folds, set.spans.as_slice())?;
-    complement_if(alloc, alphabet, set.is_negated, named)
+    negated(alloc, alphabet, set.is_negated, named)
 }
 
 /// The ranges of a set of characters. An `Err` is want of memory.
