@@ -160,7 +160,7 @@ module _ (entries : List EntryFsm) (alphabet : Alphabet) (context : Context) (m 
           let k : Key × ℕ = (record { 0 = l.key }, l.truths) in
           (word ++ k ∷ [], leads_on word (k ∷ []) (root.entry e) (Some (e, i)) (Some (e, v.to)) f (go_at (λ e. ℕ) (part_at entries) e v, ap (option_map (go_at (λ e. ℕ) (part_at entries) e)) s, refl))
 
-  built_known : (q : RootState) → IsBuilt entries q → IsKnown root letters count q
+  pub built_known : (q : RootState) → IsBuilt entries q → IsKnown root letters count q
   built_known None b = inl refl
   built_known (Some (e, i)) b = inr (built_reached e i b)
 
