@@ -71,8 +71,8 @@ ends a es behind fits =
     let len = fit_length (shape (shares a) (length es)) (said_of a es) (said_fits a es fits) in
     let long = shape_length (shares a) (length es) in
     let last : slice_get (drop 4 ls) (length es) ≡ Some (array_line a.name array.Actions (map signed_decimal a.actions)) =
-        get_drop ls (length es) ∙ g.same (suc (suc (suc (suc (length es))))) (omega (arith, len, long))
-        ∙ ap (λ t. slice_get (map (line a.name) (map said_entry es ++ t)) (length es)) (tail_begins (shares a) a) ∙ tail_said_at a.name es _ (tail_rest (shares a) a) in
+    get_drop ls (length es) ∙ g.same (suc (suc (suc (suc (length es))))) (omega (arith, len, long))
+    ∙ ap (λ t. slice_get (map (line a.name) (map said_entry es ++ t)) (length es)) (tail_begins (shares a) a) ∙ tail_said_at a.name es _ (tail_rest (shares a) a) in
     record {
       each = λ k lt. subst (λ o. IsSomeAnd o (IsEntryLine a.name)) (sym (get_drop ls k ∙ g.same (suc (suc (suc (suc k)))) (omega (arith, len, long, lt)))) (entry_said_at a.name es _ k fits.entries lt);
       next = λ h. no_entry (subst (λ o. IsSomeAnd o (IsEntryLine a.name)) last h);
@@ -169,7 +169,7 @@ index_once : (n : ℕ) (P : ℕ → Type 0) (i j : ℕ) → (i < n) × (P i → 
 index_once n P i j a b =
     elim (cases_lt i j) [
       | inl lt ↦ absurd (a.1 (b.2 i lt))
-      | inr le ↦ elim (cases_lt j i) [ | inl gt ↦ absurd (b.1 (a.2 j gt)) | inr ge ↦ omega (arith, le, ge) ]
+      | inr le ↦ elim (cases_lt j i) [ inl gt ↦ absurd (b.1 (a.2 j gt)) | inr ge ↦ omega (arith, le, ge) ]
     ]
 
 sound_at : (a : Arrays) (place k : ℕ) (x : ArrayName) → SoundBefore a place → k < place → slice_get ORDER k ≡ Some x → FirstWrong a x None
@@ -270,7 +270,7 @@ explained_unread machine text (the.BadText l) a nf p r n v =
 explained_unread machine text (the.BadValue x) a nf p r n v =
     let same = one_begin machine (lines_of text) p.at r.at p.begins r.begins in
     let lines : lines_with p.arrays p.entries ++ p.behind ≡ lines_with a (entries a) ++ r.behind =
-        sym p.lines ∙ ap (λ n. drop n (lines_of text)) same ∙ r.lines ∙ ap (λ t. t ++ r.behind) (section_is a) in
+    sym p.lines ∙ ap (λ n. drop n (lines_of text)) same ∙ r.lines ∙ ap (λ t. t ++ r.behind) (section_is a) in
     let raw = one_section p.arrays a p.entries (entries a) p.behind r.behind p.fits (valid_prints a v n) lines in
     never_first_bad a x v (subst (λ (w : Raw). IsFirstBad w.arrays w.entries x) raw p.bad)
 explained_unread machine text the.Memory a nf p r n v = nf refl
