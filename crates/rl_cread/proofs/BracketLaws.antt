@@ -36,5 +36,6 @@ actions_plain name texts h =
     let e : true ≡ false = d.each.0 in
     absurd cc
 
-pub no_both : (name word : List ℕ) (n : ℤ) (texts : List (List ℕ)) → IsTrue (is_name name) → IsTrue (is_name word) → IsPrintedNumber n → entry_line name (word, n) ≡ array_line name array.Actions texts → ⊥
+pub no_both : (name word : List ℕ) (n : ℤ) (texts : List (List ℕ)) → IsTrue (is_name name) → IsTrue (is_name word) → IsPrintedNumber n
+    → entry_line name (word, n) ≡ array_line name array.Actions texts → ⊥
 no_both name word n texts f g h e = actions_plain name texts (subst (Lacks 91) e (entry_plain name word n f g h))

@@ -17,5 +17,6 @@ pub entry_found : (name line : List ℕ) (o : Option (List ℕ × ℤ)) (yes : B
     → IsTrue yes ↔ IsEntryLine name line
 entry_found name line o found e h = subst (λ b. IsTrue b ↔ IsEntryLine name line) (sym e) (entry_some name line o h)
 
-pub at_result : {E : Type 0} (P : List ℕ → Type 0) (o : Option (List ℕ)) (line : List ℕ) (r : Result Bool E) → o ≡ Some line → IfOk r (λ yes. IsTrue yes ↔ P line) → IfOk r (λ yes. IsTrue yes ↔ IsSomeAnd o P)
+pub at_result : {E : Type 0} (P : List ℕ → Type 0) (o : Option (List ℕ)) (line : List ℕ) (r : Result Bool E) → o ≡ Some line
+    → IfOk r (λ yes. IsTrue yes ↔ P line) → IfOk r (λ yes. IsTrue yes ↔ IsSomeAnd o P)
 at_result P o line r e h = subst (λ q. IfOk r (λ yes. IsTrue yes ↔ IsSomeAnd q P)) (sym e) h

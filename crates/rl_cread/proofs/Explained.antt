@@ -1,8 +1,7 @@
 -- A text has one explanation, and none where its section is read.
-use Rattle.std.proofs.Common.{◌≡◌, ◌<◌, ◌≤◌, ◌+◌, ℕ, zero, suc, Bool, List, [], ◌∷◌, ◌++◌, length, map, drop, Option, Some, None, sym, ap, ◌∙◌, subst, refl, inl, inr, arith}
-use Rattle.std.specs.Prelude.{ℤ, ◌⊎◌, slice_get, IfSome, IsSomeAnd, Result, Ok, Err, IfOk}
+use Rattle.std.proofs.Common.{◌≡◌, ◌<◌, ◌≤◌, ◌+◌, ℕ, suc, Bool, List, [], ◌∷◌, ◌++◌, length, map, drop, Option, Some, None, sym, ap, ◌∙◌, subst, refl, inl, inr, arith}
+use Rattle.std.specs.Prelude.{ℤ, slice_get, IfSome, IsSomeAnd, Result, Ok, Err, IfOk}
 use Rattle.std.specs.Fmt.{signed_decimal}
-use Rattle.std.specs.List.{AllByRecursion}
 use Rattle.std.proofs.lemmas.Bool.{cases_lt}
 use Rattle.std.proofs.lemmas.Option.{slice_get_within}
 use Rattle.rl_arrays.specs.declared.arrays.Arrays.{Arrays}
@@ -25,7 +24,7 @@ use Rattle.rl_cread.specs.Outcome.{IsReadAt}
 use Rattle.rl_cread.proofs.Marking.{one_mark}
 use Rattle.rl_cread.proofs.BracketLaws.{no_both}
 use Rattle.rl_cread.proofs.SectionLaws.{filled_said, tail_rest, tail_begins, said_fits}
-use Rattle.rl_cread.proofs.ReadingLaws.{StandsAt, Goes, section_lines_are, reads_stands, get_drop, entry_said_at, tail_said_at, goes_on, too_many, too_few, fit_length, map_length, shape_length}
+use Rattle.rl_cread.proofs.ReadingLaws.{StandsAt, section_lines_are, reads_stands, get_drop, entry_said_at, tail_said_at, goes_on, too_many, too_few, fit_length, map_length, shape_length}
 use Rattle.rl_cread.proofs.PrintLaws.{valid_prints}
 use Rattle.rl_cread.proofs.Outcomes.{section_is}
 use Rattle.rl_cread.proofs.OnlyLaws.{get_front, stands_goes, stands_agrees, reads_it, one_begin, only_none, never_first_bad}
@@ -39,7 +38,8 @@ are_numbers (Names names) h = tt
 has_numbers : (a : Arrays) (lines : List (List ℕ × ℤ)) → IsPrintable a lines → HasNumbers a
 has_numbers a lines h = record { start = h.start; first_final = h.first_final; alphabet = h.alphabet; arrays = λ x. are_numbers (content a x) (h.arrays x) }
 
-pub read_numbers : (machine : Option (List ℕ)) (text : List ℕ) (v : Bool) (name : List ℕ) (at : ℕ) (r : Result Arrays TableFault) → IsFound machine (lines_of text) at v name
+pub read_numbers : (machine : Option (List ℕ)) (text : List ℕ) (v : Bool) (name : List ℕ) (at : ℕ) (r : Result Arrays TableFault)
+    → IsFound machine (lines_of text) at v name
     → IfOk r (IsReadAt v name (lines_of text) at) → IfOk r HasNumbers
 read_numbers machine text v name at (Ok a) f h =
     let s = reads_stands v name (drop (at + 1) (lines_of text)) h.raw f.formed h.reads in
@@ -95,11 +95,13 @@ begins_less lines k j le b =
     let w = b.within in
     record { arrays = b.arrays; entries = b.entries; fits = b.fits; within = omega (arith, w, le); same = λ i lt. b.same i (omega (arith, lt, le)) }
 
-whole : (a : Arrays) (es : List (List ℕ × ℤ)) (behind : List (List ℕ)) (k : ℕ) → IsPrintable a es → k ≤ length (lines_with a es) → Begins (lines_with a es ++ behind) k
+whole : (a : Arrays) (es : List (List ℕ × ℤ)) (behind : List (List ℕ)) (k : ℕ) → IsPrintable a es → k ≤ length (lines_with a es)
+    → Begins (lines_with a es ++ behind) k
 whole a es behind k fits le = record { arrays = a; entries = es; fits = fits; within = omega (arith, le); same = λ j lt. get_front (lines_with a es) behind j (omega (arith, lt, le)) }
 
 -- what goes on as far as a section does has as many lines
-same_size : (a : Arrays) (es : List (List ℕ × ℤ)) (behind : List (List ℕ)) → IsPrintable a es → (b : Begins (head a ∷ behind_head a es behind) (length (said_of a es) + 1))
+same_size : (a : Arrays) (es : List (List ℕ × ℤ)) (behind : List (List ℕ)) → IsPrintable a es
+    → (b : Begins (head a ∷ behind_head a es behind) (length (said_of a es) + 1))
     → length (lines_with b.arrays b.entries) ≡ length (lines_with a es)
 same_size a es behind fits b =
     let n : ℕ = length (said_of a es) in
@@ -119,7 +121,8 @@ same_size a es behind fits b =
     ] in
     size b.arrays b.entries b.fits ∙ ap (λ v. length (shape v (length b.entries)) + 1) mark.0 ∙ ap (λ c. length (shape (shares a) c) + 1) count ∙ sym (size a es fits)
 
-too_long : (a : Arrays) (es : List (List ℕ × ℤ)) (behind : List (List ℕ)) (k : ℕ) → IsPrintable a es → length (lines_with a es) ≤ k → (b : Begins (head a ∷ behind_head a es behind) k)
+too_long : (a : Arrays) (es : List (List ℕ × ℤ)) (behind : List (List ℕ)) (k : ℕ) → IsPrintable a es → length (lines_with a es) ≤ k
+    → (b : Begins (head a ∷ behind_head a es behind) k)
     → k < length (lines_with b.arrays b.entries) → ⊥
 too_long a es behind k fits le b due =
     let is = section_lines_are (shares a) a.name a es refl refl in
@@ -135,7 +138,8 @@ never_line a es behind k fits bad =
       | inr le ↦ let moved = subst (λ ls. IsBadLine ls k) (section_at a es behind) bad in too_long a es behind k fits le moved.before moved.due
     ]
 
-never_text : (machine : Option (List ℕ)) (text : List ℕ) (l at : ℕ) (a : Arrays) (es : List (List ℕ × ℤ)) (behind : List (List ℕ)) → IsPrintable a es → BeginsAt machine (lines_of text) at
+never_text : (machine : Option (List ℕ)) (text : List ℕ) (l at : ℕ) (a : Arrays) (es : List (List ℕ × ℤ)) (behind : List (List ℕ))
+    → IsPrintable a es → BeginsAt machine (lines_of text) at
     → drop at (lines_of text) ≡ lines_with a es ++ behind → IsBadText machine text l → ⊥
 never_text machine text l at a es behind fits begins is t =
     let same = one_begin machine (lines_of text) t.at at t.begins begins in
@@ -143,7 +147,8 @@ never_text machine text l at a es behind fits begins is t =
 
 -- ---- one section stands there
 
-reads_section : (a : Arrays) (es : List (List ℕ × ℤ)) (behind : List (List ℕ)) → IsPrintable a es → ReadsAs (shares a) a.name (behind_head a es behind) (raw_of a es)
+reads_section : (a : Arrays) (es : List (List ℕ × ℤ)) (behind : List (List ℕ)) → IsPrintable a es
+    → ReadsAs (shares a) a.name (behind_head a es behind) (raw_of a es)
 reads_section a es behind fits = record {
   count = length es;
   ends = ends a es behind fits;
@@ -156,7 +161,8 @@ abbrev first_or : List ℕ → List (List ℕ) → List ℕ
 first_or n [] = n
 first_or n (l ∷ ls) = l
 
-one_section : (a b : Arrays) (es fs : List (List ℕ × ℤ)) (before behind : List (List ℕ)) → IsPrintable a es → IsPrintable b fs → lines_with a es ++ before ≡ lines_with b fs ++ behind → raw_of a es ≡ raw_of b fs
+one_section : (a b : Arrays) (es fs : List (List ℕ × ℤ)) (before behind : List (List ℕ)) → IsPrintable a es → IsPrintable b fs
+    → lines_with a es ++ before ≡ lines_with b fs ++ behind → raw_of a es ≡ raw_of b fs
 one_section a b es fs before behind fits other same =
     let all : head a ∷ behind_head a es before ≡ lines_with b fs ++ behind = sym (section_at a es before) ∙ same in
     let mark = one_mark (shares a) (shares b) a.name b.name (ap (first_or a.name) (all ∙ section_at b fs behind)) in
@@ -247,7 +253,8 @@ begins_or_none machine text at begins none = of_line (slice_get (lines_of text) 
     of_line None p q = p
 
 -- a text that gives no tables has one explanation
-pub explained_once : (machine : Option (List ℕ)) (text : List ℕ) (f g : TableFault) → (f ≡ the.Memory → ⊥) → (g ≡ the.Memory → ⊥) → Explains machine text f → Explains machine text g → f ≡ g
+pub explained_once : (machine : Option (List ℕ)) (text : List ℕ) (f g : TableFault) → (f ≡ the.Memory → ⊥) → (g ≡ the.Memory → ⊥)
+    → Explains machine text f → Explains machine text g → f ≡ g
 explained_once machine text the.Memory g nf ng p q = absurd (nf refl)
 explained_once machine text the.NoSection the.NoSection nf ng p q = refl
 explained_once machine text the.NoSection (the.BadText m) nf ng p q = absurd (begins_or_none machine text q.at q.begins p)
@@ -263,7 +270,8 @@ explained_once machine text (the.BadValue x) (the.BadValue y) nf ng p q = ap the
 explained_once machine text (the.BadValue x) the.Memory nf ng p q = absurd (ng refl)
 
 -- and one whose section is read has none
-pub explained_unread : (machine : Option (List ℕ)) (text : List ℕ) (f : TableFault) (a : Arrays) → (f ≡ the.Memory → ⊥) → Explains machine text f → IsRead machine text a → HasNumbers a → Valid a → ⊥
+pub explained_unread : (machine : Option (List ℕ)) (text : List ℕ) (f : TableFault) (a : Arrays) → (f ≡ the.Memory → ⊥) → Explains machine text f
+    → IsRead machine text a → HasNumbers a → Valid a → ⊥
 explained_unread machine text the.NoSection a nf p r n v = only_none machine text a p r
 explained_unread machine text (the.BadText l) a nf p r n v =
     never_text machine text l r.at a (entries a) r.behind (valid_prints a v n) r.begins (r.lines ∙ ap (λ t. t ++ r.behind) (section_is a)) p

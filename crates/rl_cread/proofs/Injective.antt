@@ -49,7 +49,8 @@ same_spaced (u ∷ us) (v ∷ vs) e =
     let a : u ≡ v = cc in
     ap (λ x. x ∷ us) a ∙ ap (λ x. v ∷ x) (same_spaced us vs t)
 
-same_map : {A : Type 0} (f : A → List ℕ) (P : A → Type 0) → ((x y : A) → P x → P y → f x ≡ f y → x ≡ y) → (xs ys : List A) → AllByRecursion P xs → AllByRecursion P ys → map f xs ≡ map f ys → xs ≡ ys
+same_map : {A : Type 0} (f : A → List ℕ) (P : A → Type 0) → ((x y : A) → P x → P y → f x ≡ f y → x ≡ y) → (xs ys : List A) → AllByRecursion P xs
+    → AllByRecursion P ys → map f xs ≡ map f ys → xs ≡ ys
 same_map f P once [] [] p q e = refl
 same_map f P once [] (y ∷ ys) p q e = absurd cc
 same_map f P once (x ∷ xs) [] p q e = absurd cc
@@ -58,7 +59,8 @@ same_map f P once (x ∷ xs) (y ∷ ys) p q e =
     let t : map f xs ≡ map f ys = cc in
     ap (λ z. z ∷ xs) (once x y p.0 q.0 h) ∙ ap (λ z. y ∷ z) (same_map f P once xs ys p.1 q.1 t)
 
-same_joined : {A : Type 0} (f : A → List ℕ) (P : A → Type 0) → ((x : A) → P x → Lacks 44 (f x)) → ((x : A) → P x → 0 < length (f x)) → ((x y : A) → P x → P y → f x ≡ f y → x ≡ y)
+same_joined : {A : Type 0} (f : A → List ℕ) (P : A → Type 0) → ((x : A) → P x → Lacks 44 (f x)) → ((x : A) → P x → 0 < length (f x))
+    → ((x y : A) → P x → P y → f x ≡ f y → x ≡ y)
     → (xs ys : List A) → AllByRecursion P xs → AllByRecursion P ys → joined (map f xs) ≡ joined (map f ys) → xs ≡ ys
 same_joined f P lacks some once [] [] p q e = refl
 same_joined f P lacks some once [] (y ∷ ys) p q e = let s = some y q.0 in let l = length-append (f y) (flat_map comma (map f ys)) in absurd (omega (arith, ap length e, s, l))
@@ -67,7 +69,8 @@ same_joined f P lacks some once (x ∷ xs) (y ∷ ys) p q e =
     same_map f P once (x ∷ xs) (y ∷ ys) p q (same_spaced (map f (x ∷ xs)) (map f (y ∷ ys)) (
     sym (cut_joined (f x) (map f xs) (all_map f P lacks (x ∷ xs) p)) ∙ ap (λ t. cut (32 ∷ t)) e ∙ cut_joined (f y) (map f ys) (all_map f P lacks (y ∷ ys) q)))
 
-same_entry : (name word other : List ℕ) (n m : ℤ) → IsTrue (is_name word) × IsPrintedNumber n → IsTrue (is_name other) × IsPrintedNumber m → entry_line name (word, n) ≡ entry_line name (other, m) → the.Entry word n ≡ the.Entry other m
+same_entry : (name word other : List ℕ) (n m : ℤ) → IsTrue (is_name word) × IsPrintedNumber n → IsTrue (is_name other) × IsPrintedNumber m
+    → entry_line name (word, n) ≡ entry_line name (other, m) → the.Entry word n ≡ the.Entry other m
 same_entry name word other n m p q e =
     let t : entry_text word n ≡ entry_text other m = append_cancel_left (entry_front name) (entry_text word n) (entry_text other m) (sym (entry_is name word n) ∙ e ∙ entry_is name other m) in
     let a = entry_cut (entry_text word n) word n p.0 refl in
@@ -76,19 +79,22 @@ same_entry name word other n m p q e =
     let d : n ≡ m = same_number n m p.1 q.1 (same_mid (codes " = ") (signed_decimal n) (signed_decimal m) (codes ";") (sym a.back ∙ b.back)) in
     ap (λ x. the.Entry x n) w ∙ ap (the.Entry other) d
 
-same_numbered : (name : List ℕ) (l k j : Label) (n m : ℤ) → (k ≡ l) × IsPrintedNumber n → (j ≡ l) × IsPrintedNumber m → line name (the.Number k n) ≡ line name (the.Number j m) → the.Number k n ≡ the.Number j m
+same_numbered : (name : List ℕ) (l k j : Label) (n m : ℤ) → (k ≡ l) × IsPrintedNumber n → (j ≡ l) × IsPrintedNumber m
+    → line name (the.Number k n) ≡ line name (the.Number j m) → the.Number k n ≡ the.Number j m
 same_numbered name l k j n m p q e =
     let a : k ≡ j = p.0 ∙ sym q.0 in
     let f : line name (the.Number j n) ≡ line name (the.Number j m) = ap (λ x. line name (the.Number x n)) (sym a) ∙ e in
     ap (λ x. the.Number x n) a ∙ ap (the.Number j) (same_number n m p.1 q.1 (same_mid (number_front name (label_word j)) (signed_decimal n) (signed_decimal m) (codes ";") f))
 
-same_numbers : (name : List ℕ) (x k j : ArrayName) (ns ms : List ℤ) → (k ≡ x) × AllByRecursion IsPrintedNumber ns → (j ≡ x) × AllByRecursion IsPrintedNumber ms → line name (the.Numbers k ns) ≡ line name (the.Numbers j ms) → the.Numbers k ns ≡ the.Numbers j ms
+same_numbers : (name : List ℕ) (x k j : ArrayName) (ns ms : List ℤ) → (k ≡ x) × AllByRecursion IsPrintedNumber ns
+    → (j ≡ x) × AllByRecursion IsPrintedNumber ms → line name (the.Numbers k ns) ≡ line name (the.Numbers j ms) → the.Numbers k ns ≡ the.Numbers j ms
 same_numbers name x k j ns ms p q e =
     let a : k ≡ j = p.0 ∙ sym q.0 in
     let f : line name (the.Numbers j ns) ≡ line name (the.Numbers j ms) = ap (λ y. line name (the.Numbers y ns)) (sym a) ∙ e in
     ap (λ y. the.Numbers y ns) a ∙ ap (the.Numbers j) (same_joined signed_decimal IsPrintedNumber number_lacks number_filled same_number ns ms p.1 q.1 (same_mid (array_front name j) (joined (map signed_decimal ns)) (joined (map signed_decimal ms)) (codes " };") f))
 
-same_names : (name : List ℕ) (x k j : ArrayName) (ns ms : List (List ℕ)) → (k ≡ x) × AllByRecursion IsPrintedName ns → (j ≡ x) × AllByRecursion IsPrintedName ms → line name (the.Names k ns) ≡ line name (the.Names j ms) → the.Names k ns ≡ the.Names j ms
+same_names : (name : List ℕ) (x k j : ArrayName) (ns ms : List (List ℕ)) → (k ≡ x) × AllByRecursion IsPrintedName ns
+    → (j ≡ x) × AllByRecursion IsPrintedName ms → line name (the.Names k ns) ≡ line name (the.Names j ms) → the.Names k ns ≡ the.Names j ms
 same_names name x k j ns ms p q e =
     let a : k ≡ j = p.0 ∙ sym q.0 in
     let f : line name (the.Names j ns) ≡ line name (the.Names j ms) = ap (λ y. line name (the.Names y ns)) (sym a) ∙ e in
@@ -109,7 +115,8 @@ line_once name form.Last the.Last the.Last p q e = refl
 line_once name form.Last the.Last d p q e = absurd q
 line_once name f c d p q e = absurd p
 
-said_once : (name : List ℕ) (fs : List Form) (cs ds : List Said) → AllFit fs cs → AllFit fs ds → ((j : ℕ) → j < length fs → slice_get (map (line name) cs) j ≡ slice_get (map (line name) ds) j) → cs ≡ ds
+said_once : (name : List ℕ) (fs : List Form) (cs ds : List Said) → AllFit fs cs → AllFit fs ds
+    → ((j : ℕ) → j < length fs → slice_get (map (line name) cs) j ≡ slice_get (map (line name) ds) j) → cs ≡ ds
 said_once name [] [] [] p q e = refl
 said_once name [] [] (d ∷ ds) p q e = absurd q
 said_once name [] (c ∷ cs) ds p q e = absurd p
@@ -122,9 +129,11 @@ said_once name (f ∷ fs) (c ∷ cs) (d ∷ ds) p q e =
     ap (λ x. x ∷ cs) a ∙ ap (λ x. d ∷ x) b
 
 -- a section says one thing
-pub agrees_once : (name : List ℕ) (fs : List Form) (lines : List (List ℕ)) (cs ds : List Said) → Agrees name fs lines (length fs) cs → Agrees name fs lines (length fs) ds → cs ≡ ds
+pub agrees_once : (name : List ℕ) (fs : List Form) (lines : List (List ℕ)) (cs ds : List Said) → Agrees name fs lines (length fs) cs
+    → Agrees name fs lines (length fs) ds → cs ≡ ds
 agrees_once name fs lines cs ds a b = said_once name fs cs ds a.fits b.fits (λ j lt. sym (a.same j lt) ∙ b.same j lt)
 
 -- and no line of it is bad
-pub bad_agrees : (name : List ℕ) (fs : List Form) (lines : List (List ℕ)) (k : ℕ) (cs : List Said) → IsBadAt name fs lines k → Agrees name fs lines (length fs) cs → ⊥
+pub bad_agrees : (name : List ℕ) (fs : List Form) (lines : List (List ℕ)) (k : ℕ) (cs : List Said) → IsBadAt name fs lines k
+    → Agrees name fs lines (length fs) cs → ⊥
 bad_agrees name fs lines k cs bad a = bad.none (let w = bad.within in record { said = cs; agrees = record { fits = a.fits; same = λ j lt. a.same j (omega (arith, w)) } })

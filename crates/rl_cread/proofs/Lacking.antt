@@ -85,7 +85,8 @@ onto_lacks : (b : ℕ) (ps : List (List ℕ)) → AllByRecursion (Lacks 44) (ont
 onto_lacks b [] h = (h.0.each.0, tt)
 onto_lacks b (p ∷ ps) h = (h.0.each.0, (record { each = h.0.each.1 }, h.1))
 
-part_lacks : (b : ℕ) (bs : List ℕ) (t : Bool) → (b == 58) ≡ t → (AllByRecursion (Lacks 44) (slice_split (λ c. c == 58) bs) → Lacks 44 bs) → AllByRecursion (Lacks 44) (cond t ([] ∷ slice_split (λ c. c == 58) bs) (onto_first b (slice_split (λ c. c == 58) bs))) → Lacks 44 (b ∷ bs)
+part_lacks : (b : ℕ) (bs : List ℕ) (t : Bool) → (b == 58) ≡ t → (AllByRecursion (Lacks 44) (slice_split (λ c. c == 58) bs) → Lacks 44 bs)
+    → AllByRecursion (Lacks 44) (cond t ([] ∷ slice_split (λ c. c == 58) bs) (onto_first b (slice_split (λ c. c == 58) bs))) → Lacks 44 (b ∷ bs)
 part_lacks b bs true e rest h = Lacks-cons 44 b bs (ne_eqb b 44 (λ f. let t : false ≡ true = ap (λ x. x == 58) (sym f) ∙ e in absurd cc)) (rest h.1)
 part_lacks b bs false e rest h = let k = onto_lacks b (slice_split (λ c. c == 58) bs) h in Lacks-cons 44 b bs k.0 (rest k.1)
 

@@ -31,7 +31,8 @@ get_front [] ys j lt = absurd (omega arith)
 get_front (x ∷ xs) ys zero lt = refl
 get_front (x ∷ xs) ys (suc j) lt = get_front xs ys j (omega arith)
 
-pub stands_goes : (v : Bool) (name : List ℕ) (lines : List (List ℕ)) (raw : Raw) → IsTrue (is_name name) → StandsAt v name lines raw → Goes name lines (length (said_of raw.arrays raw.entries)) raw.arrays raw.entries
+pub stands_goes : (v : Bool) (name : List ℕ) (lines : List (List ℕ)) (raw : Raw) → IsTrue (is_name name) → StandsAt v name lines raw
+    → Goes name lines (length (said_of raw.arrays raw.entries)) raw.arrays raw.entries
 stands_goes v name lines raw formed s =
     let ls : List (List ℕ) = map (line name) (said_of raw.arrays raw.entries) in
     let all : first_line (version_text v) name ∷ lines ≡ first_line (version_text v) name ∷ (ls ++ s.behind) = s.is ∙ ap (λ t. t ++ s.behind) (section_lines_are v name raw.arrays raw.entries s.shared s.named) in
@@ -44,7 +45,8 @@ stands_goes v name lines raw formed s =
       same = λ j lt. ap (λ t. slice_get t j) are ∙ get_front ls s.behind j (omega (arith, lt, size));
     }
 
-same_count : (name : List ℕ) (lines : List (List ℕ)) (count : ℕ) (raw : Raw) → EntriesEnd name (drop 4 lines) count → Goes name lines (length (said_of raw.arrays raw.entries)) raw.arrays raw.entries
+same_count : (name : List ℕ) (lines : List (List ℕ)) (count : ℕ) (raw : Raw) → EntriesEnd name (drop 4 lines) count
+    → Goes name lines (length (said_of raw.arrays raw.entries)) raw.arrays raw.entries
     → count ≡ length raw.entries
 same_count name lines count raw ends g =
     let v : Bool = shares raw.arrays in
@@ -58,7 +60,8 @@ same_count name lines count raw ends g =
       ]
     ]
 
-pub stands_agrees : (v : Bool) (name : List ℕ) (lines : List (List ℕ)) (count : ℕ) (raw : Raw) → IsTrue (is_name name) → EntriesEnd name (drop 4 lines) count → StandsAt v name lines raw
+pub stands_agrees : (v : Bool) (name : List ℕ) (lines : List (List ℕ)) (count : ℕ) (raw : Raw) → IsTrue (is_name name)
+    → EntriesEnd name (drop 4 lines) count → StandsAt v name lines raw
     → Agrees name (shape v count) lines (length (shape v count)) (said_of raw.arrays raw.entries)
 stands_agrees v name lines count raw formed ends s =
     let w : Bool = shares raw.arrays in
@@ -69,14 +72,16 @@ stands_agrees v name lines count raw formed ends s =
     (subst (λ n. Agrees name (shape w n) lines (length (shape w n)) (said_of raw.arrays raw.entries)) (sym e)
     (record { fits = said_fits raw.arrays raw.entries s.fits; same = λ j lt. g.same j (omega (arith, lt, len)) }))
 
-pub reads_it : (v : Bool) (name : List ℕ) (lines : List (List ℕ)) (raw other : Raw) → IsTrue (is_name name) → ReadsAs v name lines raw → StandsAt v name lines other → raw ≡ other
+pub reads_it : (v : Bool) (name : List ℕ) (lines : List (List ℕ)) (raw other : Raw) → IsTrue (is_name name) → ReadsAs v name lines raw
+    → StandsAt v name lines other → raw ≡ other
 reads_it v name lines raw other formed r s =
     let said = agrees_once name (shape v r.count) lines r.said (said_of other.arrays other.entries) r.agrees (stands_agrees v name lines r.count other formed r.ends s) in
     r.is ∙ ap (λ t. filled t (record { arrays = empty v name; entries = [] })) said
     ∙ ap (λ w. filled (said_of other.arrays other.entries) (record { arrays = empty w name; entries = [] })) (sym s.shared)
     ∙ ap (λ n. filled (said_of other.arrays other.entries) (record { arrays = empty (shares other.arrays) n; entries = [] })) (sym s.named) ∙ filled_said other.arrays other.entries s.fits
 
-never_stops : (v : Bool) (name : List ℕ) (lines : List (List ℕ)) (k : ℕ) (other : Raw) → IsTrue (is_name name) → StopsAt v name lines k → StandsAt v name lines other → ⊥
+never_stops : (v : Bool) (name : List ℕ) (lines : List (List ℕ)) (k : ℕ) (other : Raw) → IsTrue (is_name name) → StopsAt v name lines k
+    → StandsAt v name lines other → ⊥
 never_stops v name lines k other formed t s = bad_agrees name (shape v t.count) lines k (said_of other.arrays other.entries) t.bad (stands_agrees v name lines t.count other formed t.ends s)
 
 -- the first section is one
@@ -94,7 +99,8 @@ one_begin machine lines i j a b =
       ]
     ]
 
-read_stands : (machine : Option (List ℕ)) (text : List ℕ) (v : Bool) (name : List ℕ) (at : ℕ) (a : Arrays) → IsFound machine (lines_of text) at v name → IsRead machine text a → IsPrintable a (entries a)
+read_stands : (machine : Option (List ℕ)) (text : List ℕ) (v : Bool) (name : List ℕ) (at : ℕ) (a : Arrays)
+    → IsFound machine (lines_of text) at v name → IsRead machine text a → IsPrintable a (entries a)
     → StandsAt v name (drop (at + 1) (lines_of text)) (record { arrays = a; entries = entries a })
 read_stands machine text v name at a f r fits =
     let same : r.at ≡ at = one_begin machine (lines_of text) r.at at r.begins f.begins in
@@ -116,7 +122,8 @@ pub never_first_bad : (a : Arrays) (value : BadValue) → Valid a → IsFirstBad
 never_first_bad a value v (inl b) = never_bad a value v b.0
 never_first_bad a value v (inr b) = b.0 (theirs a v)
 
-only_fault : (machine : Option (List ℕ)) (text : List ℕ) (v : Bool) (name : List ℕ) (at : ℕ) (a : Arrays) (fault : TableFault) → IsFound machine (lines_of text) at v name
+only_fault : (machine : Option (List ℕ)) (text : List ℕ) (v : Bool) (name : List ℕ) (at : ℕ) (a : Arrays) (fault : TableFault)
+    → IsFound machine (lines_of text) at v name
     → StandsAt v name (drop (at + 1) (lines_of text)) (record { arrays = a; entries = entries a }) → Valid a → IsRefusedAt v name (lines_of text) at fault → fault ≡ the.Memory
 only_fault machine text v name at a the.NoSection f s k r = absurd r
 only_fault machine text v name at a (the.BadText l) f s k r = absurd (never_stops v name (drop (at + 1) (lines_of text)) r.place (record { arrays = a; entries = entries a }) f.formed r.stops s)
@@ -125,7 +132,8 @@ only_fault machine text v name at a (the.BadValue value) f s k r =
     absurd (never_first_bad a value k (subst (λ w. IsFirstBad w.arrays w.entries value) e r.unsound))
 only_fault machine text v name at a the.Memory f s k r = refl
 
-pub only_result : (machine : Option (List ℕ)) (text : List ℕ) (v : Bool) (name : List ℕ) (at : ℕ) (r : Result Arrays TableFault) → IsFound machine (lines_of text) at v name
+pub only_result : (machine : Option (List ℕ)) (text : List ℕ) (v : Bool) (name : List ℕ) (at : ℕ) (r : Result Arrays TableFault)
+    → IsFound machine (lines_of text) at v name
     → IfOk r (IsReadAt v name (lines_of text) at) → IfErr r (IsRefusedAt v name (lines_of text) at)
     → (a : Arrays) → IsRead machine text a → HasNumbers a → Valid a → MatchResult r (λ t. t ≡ a) (λ e. e ≡ the.Memory)
 only_result machine text v name at (Ok t) f read told a r fits k =

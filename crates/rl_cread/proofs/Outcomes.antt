@@ -22,7 +22,8 @@ pub section_is : (a : Arrays) → section_lines a ≡ lines_with a (entries a)
 unfolding section_lines
 section_is a = refl
 
-pub read_is : (machine : Option (List ℕ)) (text : List ℕ) (v : Bool) (name : List ℕ) (at : ℕ) (a : Arrays) → IsFound machine (lines_of text) at v name → IsReadAt v name (lines_of text) at a → IsRead machine text a
+pub read_is : (machine : Option (List ℕ)) (text : List ℕ) (v : Bool) (name : List ℕ) (at : ℕ) (a : Arrays)
+    → IsFound machine (lines_of text) at v name → IsReadAt v name (lines_of text) at a → IsRead machine text a
 read_is machine text v name at a f r =
     let s = reads_stands v name (drop (at + 1) (lines_of text)) r.raw f.formed r.reads in
     record {
@@ -34,7 +35,8 @@ read_is machine text v name at a f r =
           ∙ ap (λ b. lines_with b (entries b) ++ s.behind) (sym r.sound.same) ∙ ap (λ t. t ++ s.behind) (sym (section_is a));
     }
 
-text_is : (machine : Option (List ℕ)) (text : List ℕ) (v : Bool) (name : List ℕ) (at line : ℕ) → IsFound machine (lines_of text) at v name → IsStopped v name (lines_of text) at line → IsBadText machine text line
+text_is : (machine : Option (List ℕ)) (text : List ℕ) (v : Bool) (name : List ℕ) (at line : ℕ) → IsFound machine (lines_of text) at v name
+    → IsStopped v name (lines_of text) at line → IsBadText machine text line
 text_is machine text v name at line f s =
     let e = s.is in
     record {
@@ -45,7 +47,8 @@ text_is machine text v name at line f s =
       is = omega (arith, e);
     }
 
-value_is : (machine : Option (List ℕ)) (text : List ℕ) (v : Bool) (name : List ℕ) (at : ℕ) (value : BadValue) → IsFound machine (lines_of text) at v name → IsBadAtValue v name (lines_of text) at value → IsBadSection machine text value
+value_is : (machine : Option (List ℕ)) (text : List ℕ) (v : Bool) (name : List ℕ) (at : ℕ) (value : BadValue)
+    → IsFound machine (lines_of text) at v name → IsBadAtValue v name (lines_of text) at value → IsBadSection machine text value
 value_is machine text v name at value f b =
     let s = reads_stands v name (drop (at + 1) (lines_of text)) b.raw f.formed b.reads in
     record {
@@ -59,16 +62,19 @@ value_is machine text v name at value f b =
       bad = b.unsound;
     }
 
-fault_is : (machine : Option (List ℕ)) (text : List ℕ) (v : Bool) (name : List ℕ) (at : ℕ) (fault : TableFault) → IsFound machine (lines_of text) at v name → IsRefusedAt v name (lines_of text) at fault → Explains machine text fault
+fault_is : (machine : Option (List ℕ)) (text : List ℕ) (v : Bool) (name : List ℕ) (at : ℕ) (fault : TableFault)
+    → IsFound machine (lines_of text) at v name → IsRefusedAt v name (lines_of text) at fault → Explains machine text fault
 fault_is machine text v name at the.NoSection f r = absurd r
 fault_is machine text v name at (the.BadText line) f r = text_is machine text v name at line f r
 fault_is machine text v name at (the.BadValue value) f r = value_is machine text v name at value f r
 fault_is machine text v name at the.Memory f r = tt
 
-pub read_result : (machine : Option (List ℕ)) (text : List ℕ) (v : Bool) (name : List ℕ) (at : ℕ) (r : Result Arrays TableFault) → IsFound machine (lines_of text) at v name → IfOk r (IsReadAt v name (lines_of text) at) → IfOk r (IsRead machine text)
+pub read_result : (machine : Option (List ℕ)) (text : List ℕ) (v : Bool) (name : List ℕ) (at : ℕ) (r : Result Arrays TableFault)
+    → IsFound machine (lines_of text) at v name → IfOk r (IsReadAt v name (lines_of text) at) → IfOk r (IsRead machine text)
 read_result machine text v name at (Ok a) f h = read_is machine text v name at a f h
 read_result machine text v name at (Err e) f h = tt
 
-pub told_result : (machine : Option (List ℕ)) (text : List ℕ) (v : Bool) (name : List ℕ) (at : ℕ) (r : Result Arrays TableFault) → IsFound machine (lines_of text) at v name → IfErr r (IsRefusedAt v name (lines_of text) at) → IfErr r (Explains machine text)
+pub told_result : (machine : Option (List ℕ)) (text : List ℕ) (v : Bool) (name : List ℕ) (at : ℕ) (r : Result Arrays TableFault)
+    → IsFound machine (lines_of text) at v name → IfErr r (IsRefusedAt v name (lines_of text) at) → IfErr r (Explains machine text)
 told_result machine text v name at (Ok a) f h = tt
 told_result machine text v name at (Err e) f h = fault_is machine text v name at e f h

@@ -39,7 +39,8 @@ map_spaced : {A : Type 0} (f : A → List ℕ) (xs : List A) → map (λ x. 32 �
 map_spaced f [] = refl
 map_spaced f (x ∷ xs) = ap (λ t. (32 ∷ f x) ∷ t) (map_spaced f xs)
 
-pub all_map : {A : Type 0} (f : A → List ℕ) (P : A → Type 0) → ((x : A) → P x → Lacks 44 (f x)) → (xs : List A) → AllByRecursion P xs → AllByRecursion (Lacks 44) (map f xs)
+pub all_map : {A : Type 0} (f : A → List ℕ) (P : A → Type 0) → ((x : A) → P x → Lacks 44 (f x)) → (xs : List A) → AllByRecursion P xs
+    → AllByRecursion (Lacks 44) (map f xs)
 all_map f P h [] a = tt
 all_map f P h (x ∷ xs) a = (h x a.0, all_map f P h xs a.1)
 
@@ -49,20 +50,23 @@ none_read f P text some lacks none [] a e = absurd (omega (arith, ap length e))
 none_read f P text some lacks none (x ∷ xs) a e = none (x ∷ xs) a (ap (λ t. cut (32 ∷ t)) e ∙ cut_joined (f x) (map f xs) (all_map f P lacks (x ∷ xs) a) ∙ sym (map_spaced f (x ∷ xs)))
 
 -- what is read of the parts is read of the text
-read_option : {A : Type 0} (f : A → List ℕ) (P : A → Type 0) (text : List ℕ) (ps : List (List ℕ)) (o : Option (List A)) → ps ≡ cut (32 ∷ text) → 0 < length text → ((x : A) → P x → Lacks 44 (f x))
+read_option : {A : Type 0} (f : A → List ℕ) (P : A → Type 0) (text : List ℕ) (ps : List (List ℕ)) (o : Option (List A)) → ps ≡ cut (32 ∷ text)
+    → 0 < length text → ((x : A) → P x → Lacks 44 (f x))
     → MatchOption o ((xs : List A) → AllByRecursion P xs → ps ≡ map (λ x. 32 ∷ f x) xs → ⊥) (λ xs. AllByRecursion P xs × (ps ≡ map (λ x. 32 ∷ f x) xs))
     → MatchOption o ((xs : List A) → AllByRecursion P xs → text ≡ joined (map f xs) → ⊥) (λ xs. AllByRecursion P xs × (text ≡ joined (map f xs)))
 read_option f P text ps None e some lacks h = none_read f P text some lacks (λ xs a k. h xs a (e ∙ k))
 read_option f P text ps (Some xs) e some lacks h = (h.0, joined_cut text (map f xs) (sym e ∙ h.1 ∙ map_spaced f xs))
 
-pub read_result : {A E : Type 0} (f : A → List ℕ) (P : A → Type 0) (text : List ℕ) (ps : List (List ℕ)) (r : Result (Option (List A)) E) → ps ≡ cut (32 ∷ text) → 0 < length text → ((x : A) → P x → Lacks 44 (f x))
+pub read_result : {A E : Type 0} (f : A → List ℕ) (P : A → Type 0) (text : List ℕ) (ps : List (List ℕ)) (r : Result (Option (List A)) E)
+    → ps ≡ cut (32 ∷ text) → 0 < length text → ((x : A) → P x → Lacks 44 (f x))
     → IfOk r (λ o. MatchOption o ((xs : List A) → AllByRecursion P xs → ps ≡ map (λ x. 32 ∷ f x) xs → ⊥) (λ xs. AllByRecursion P xs × (ps ≡ map (λ x. 32 ∷ f x) xs)))
     → IfOk r (λ o. MatchOption o ((xs : List A) → AllByRecursion P xs → text ≡ joined (map f xs) → ⊥) (λ xs. AllByRecursion P xs × (text ≡ joined (map f xs))))
 read_result f P text ps (Ok o) e some lacks h = read_option f P text ps o e some lacks h
 read_result f P text ps (Err x) e some lacks h = tt
 
 -- where an element is none, the parts are no list of elements
-pub stuck_part : {A : Type 0} (f : A → List ℕ) (P : A → Type 0) (xs : List A) (i : ℕ) (t : List ℕ) → AllByRecursion P xs → slice_get (map f xs) i ≡ Some t → ((x : A) → P x → t ≡ f x → ⊥) → ⊥
+pub stuck_part : {A : Type 0} (f : A → List ℕ) (P : A → Type 0) (xs : List A) (i : ℕ) (t : List ℕ) → AllByRecursion P xs
+    → slice_get (map f xs) i ≡ Some t → ((x : A) → P x → t ≡ f x → ⊥) → ⊥
 stuck_part f P [] i t h e none = absurd cc
 stuck_part f P (x ∷ xs) zero t h e none = none x h.0 cc
 stuck_part f P (x ∷ xs) (suc i) t h e none = stuck_part f P xs i t h.1 e none

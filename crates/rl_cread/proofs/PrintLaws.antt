@@ -1,6 +1,6 @@
 -- What is valid, and has numbers that fit their type, can be printed.
-use Rattle.std.proofs.Common.{◌≡◌, ◌<◌, ◌≤◌, ◌+◌, ℕ, zero, suc, Bool, true, false, List, [], ◌∷◌, length, drop, Option, Some, None, sym, ap, ◌∙◌, subst, refl, inl, inr, arith}
-use Rattle.std.specs.Prelude.{ℤ, IsTrue, ◌||◌, slice_get, IfSome, max, if◌then◌else◌}
+use Rattle.std.proofs.Common.{◌≡◌, ◌<◌, ◌+◌, ℕ, zero, suc, Bool, true, false, List, [], ◌∷◌, length, drop, Option, Some, None, sym, ap, ◌∙◌, subst, refl, arith}
+use Rattle.std.specs.Prelude.{ℤ, IsTrue, ◌||◌, slice_get, IfSome, if◌then◌else◌}
 use Rattle.std.specs.List.{AllByRecursion, zip}
 use Rattle.rl_arrays.specs.declared.arrays.Arrays.{Arrays}
 use Rattle.rl_arrays.specs.declared.arrays.ArrayName.{ArrayName}
@@ -9,8 +9,8 @@ use Rattle.rl_arrays.specs.Names.{is_name, is_action_name, is_place}
 use Rattle.rl_arrays.specs.Rules.{Says, NameSays, EntrySays}
 use Rattle.rl_arrays.specs.Section.{entries}
 use Rattle.rl_arrays.specs.Sizes.{shares, has, due, uses_end, one_more}
-use Rattle.rl_arrays.specs.Valid.{Valid, Right}
-use Rattle.rl_cread.specs.Contents.{Content, content, Fits, HasNumbers, IsPrintable, IsPrintedName, IsPrintedNumber, IsPrintedEntry}
+use Rattle.rl_arrays.specs.Valid.{Valid}
+use Rattle.rl_cread.specs.Contents.{content, Fits, HasNumbers, IsPrintable, IsPrintedName, IsPrintedNumber, IsPrintedEntry}
 use Rattle.rl_cread.proofs.ValueLaws.{get_one, has_due}
 
 all_by : {A : Type 0} (P : A → Type 0) (xs : List A) → ((i : ℕ) → i < length xs → IfSome (slice_get xs i) P) → AllByRecursion P xs
@@ -41,7 +41,8 @@ empty_prints : (name : List ℕ) → name ≡ [] → IsPrintedName name
 empty_prints [] e = refl
 empty_prints (b ∷ bs) e = absurd cc
 
-says_prints : (is_formed : List ℕ → Bool) → ((name : List ℕ) → IsTrue (is_formed name) → IsPrintedName name) → (names : List (List ℕ)) (i : ℕ) (name : List ℕ) → NameSays is_formed names i name → IsPrintedName name
+says_prints : (is_formed : List ℕ → Bool) → ((name : List ℕ) → IsTrue (is_formed name) → IsPrintedName name)
+    → (names : List (List ℕ)) (i : ℕ) (name : List ℕ) → NameSays is_formed names i name → IsPrintedName name
 says_prints f lift names zero name h = empty_prints name (h.empty refl)
 says_prints f lift names (suc i) name h = lift name (h.formed (omega arith))
 
@@ -101,7 +102,8 @@ words_formed a v = all_by (λ name. IsTrue (is_name name)) (drop 1 a.entry_names
     within [] i lt = absurd (omega (arith, lt))
     within (x ∷ xs) i lt = omega (arith, lt)
 
-lines_print : (names : List (List ℕ)) (states : List ℤ) → AllByRecursion (λ name. IsTrue (is_name name)) names → AllByRecursion IsPrintedNumber states → AllByRecursion IsPrintedEntry (zip names states)
+lines_print : (names : List (List ℕ)) (states : List ℤ) → AllByRecursion (λ name. IsTrue (is_name name)) names
+    → AllByRecursion IsPrintedNumber states → AllByRecursion IsPrintedEntry (zip names states)
 lines_print [] states h k = tt
 lines_print (n ∷ names) [] h k = tt
 lines_print (n ∷ names) (s ∷ states) h k = ((h.0, k.0), lines_print names states h.1 k.1)

@@ -34,7 +34,8 @@ prefix_is (x ∷ xs) (y ∷ ys) h =
     let r = prefix_is xs ys (λ j lt. h (suc j) (omega arith)) in
     ap (λ t. t ∷ xs) a ∙ ap (λ t. y ∷ t) r
 
-cons_same : {A : Type 0} (x : A) (xs ys : List A) (k : ℕ) → ((j : ℕ) → j < k → slice_get xs j ≡ slice_get ys j) → (j : ℕ) → j < k + 1 → slice_get (x ∷ xs) j ≡ slice_get (x ∷ ys) j
+cons_same : {A : Type 0} (x : A) (xs ys : List A) (k : ℕ) → ((j : ℕ) → j < k → slice_get xs j ≡ slice_get ys j) → (j : ℕ) → j < k + 1
+    → slice_get (x ∷ xs) j ≡ slice_get (x ∷ ys) j
 cons_same x xs ys k h zero lt = refl
 cons_same x xs ys k h (suc j) lt = h j (omega arith)
 
@@ -77,7 +78,8 @@ pub record StandsAt (v : Bool) (name : List ℕ) (lines : List (List ℕ)) (raw 
   pub behind : List (List ℕ)
   pub is : first_line (version_text v) name ∷ lines ≡ lines_with raw.arrays raw.entries ++ behind
 
-stands_said : (v : Bool) (name : List ℕ) (lines : List (List ℕ)) (count : ℕ) (ss : List Said) → Agrees name (shape v count) lines (length (shape v count)) ss → SectionSaid v name count ss
+stands_said : (v : Bool) (name : List ℕ) (lines : List (List ℕ)) (count : ℕ) (ss : List Said)
+    → Agrees name (shape v count) lines (length (shape v count)) ss → SectionSaid v name count ss
     → StandsAt v name lines (filled ss (record { arrays = empty v name; entries = [] }))
 stands_said v name lines count ss h s =
     let raw : Raw = record { arrays = s.arrays; entries = s.entries } in
@@ -117,12 +119,14 @@ get_drop (a ∷ b ∷ []) k = refl
 get_drop (a ∷ b ∷ c ∷ []) k = refl
 get_drop (a ∷ b ∷ c ∷ d ∷ xs) k = refl
 
-pub entry_said_at : (name : List ℕ) (es : List (List ℕ × ℤ)) (rest : List Said) (k : ℕ) → AllByRecursion IsPrintedEntry es → k < length es → IsSomeAnd (slice_get (map (line name) (map said_entry es ++ rest)) k) (IsEntryLine name)
+pub entry_said_at : (name : List ℕ) (es : List (List ℕ × ℤ)) (rest : List Said) (k : ℕ) → AllByRecursion IsPrintedEntry es → k < length es
+    → IsSomeAnd (slice_get (map (line name) (map said_entry es ++ rest)) k) (IsEntryLine name)
 entry_said_at name [] rest k h lt = absurd (omega arith)
 entry_said_at name (e ∷ es) rest zero h lt = record { word = e.0; number = e.1; fits = h.0; is = refl }
 entry_said_at name (e ∷ es) rest (suc k) h lt = entry_said_at name es rest k h.1 (omega arith)
 
-pub tail_said_at : (name : List ℕ) (es : List (List ℕ × ℤ)) (s : Said) (rest : List Said) → slice_get (map (line name) (map said_entry es ++ (s ∷ rest))) (length es) ≡ Some (line name s)
+pub tail_said_at : (name : List ℕ) (es : List (List ℕ × ℤ)) (s : Said) (rest : List Said)
+    → slice_get (map (line name) (map said_entry es ++ (s ∷ rest))) (length es) ≡ Some (line name s)
 tail_said_at name [] s rest = refl
 tail_said_at name (e ∷ es) s rest = tail_said_at name es s rest
 
@@ -131,7 +135,8 @@ some_is : {A : Type 0} (P : A → Type 0) (o : Option A) (x : A) → o ≡ Some 
 some_is P None x e h = absurd h
 some_is P (Some y) x e h = let a : y ≡ x = cc in subst P a h
 
-pub too_many : (name : List ℕ) (lines : List (List ℕ)) (count n : ℕ) (a : Arrays) (es : List (List ℕ × ℤ)) → EntriesEnd name (drop 4 lines) count → Goes name lines n a es → length es < count → length es + 4 < n → ⊥
+pub too_many : (name : List ℕ) (lines : List (List ℕ)) (count n : ℕ) (a : Arrays) (es : List (List ℕ × ℤ)) → EntriesEnd name (drop 4 lines) count
+    → Goes name lines n a es → length es < count → length es + 4 < n → ⊥
 too_many name lines count n a es ends g few far =
     let at : slice_get (drop 4 lines) (length es) ≡ Some (array_line name array.Actions (map signed_decimal a.actions)) =
     get_drop lines (length es) ∙ g.same (suc (suc (suc (suc (length es))))) (omega (arith, far))
@@ -139,7 +144,8 @@ too_many name lines count n a es ends g few far =
     let entry = some_is (IsEntryLine name) (slice_get (drop 4 lines) (length es)) _ at (ends.each (length es) few) in
     no_both name entry.word entry.number (map signed_decimal a.actions) g.formed entry.fits.0 entry.fits.1 (sym entry.is)
 
-pub too_few : (name : List ℕ) (lines : List (List ℕ)) (count n : ℕ) (a : Arrays) (es : List (List ℕ × ℤ)) → EntriesEnd name (drop 4 lines) count → Goes name lines n a es → count < length es → count + 4 < n → ⊥
+pub too_few : (name : List ℕ) (lines : List (List ℕ)) (count n : ℕ) (a : Arrays) (es : List (List ℕ × ℤ)) → EntriesEnd name (drop 4 lines) count
+    → Goes name lines n a es → count < length es → count + 4 < n → ⊥
 too_few name lines count n a es ends g more far =
     let at : slice_get (drop 4 lines) count ≡ slice_get (map (line name) (said_of a es)) (suc (suc (suc (suc count)))) = get_drop lines count ∙ g.same (suc (suc (suc (suc count)))) (omega (arith, far)) in
     ends.next (subst (λ o. IsSomeAnd o (IsEntryLine name)) (sym at) (entry_said_at name es _ count g.fits.entries more))
@@ -157,7 +163,9 @@ shape_same v m n k p q (suc (suc zero)) lt = refl
 shape_same v m n k p q (suc (suc (suc zero))) lt = refl
 shape_same v m n k p q (suc (suc (suc (suc i)))) lt = get_replicate m form.Entry (tail v) i (omega (arith, lt, p)) ∙ sym (get_replicate n form.Entry (tail v) i (omega (arith, lt, q)))
 
-so_far : (name : List ℕ) (fs gs : List Form) (lines : List (List ℕ)) (ss : List Said) (n : ℕ) → AllFit gs ss → n < length ss + 1 → ((j : ℕ) → j < n → slice_get fs j ≡ slice_get gs j) → ((j : ℕ) → j < n → slice_get lines j ≡ slice_get (map (line name) ss) j) → SoFar name fs lines (take n ss)
+so_far : (name : List ℕ) (fs gs : List Form) (lines : List (List ℕ)) (ss : List Said) (n : ℕ) → AllFit gs ss → n < length ss + 1
+    → ((j : ℕ) → j < n → slice_get fs j ≡ slice_get gs j) → ((j : ℕ) → j < n → slice_get lines j ≡ slice_get (map (line name) ss) j)
+    → SoFar name fs lines (take n ss)
 so_far name fs gs lines ss zero h w e s = tt
 so_far name fs gs lines [] (suc n) h w e s = absurd (omega arith)
 so_far name fs [] lines (c ∷ ss) (suc n) h w e s = absurd h
@@ -182,7 +190,8 @@ alike name lines count n a es g e =
     (begins name (shape (shares a) count) lines (take n (said_of a es)) (so_far name (shape (shares a) count) (shape (shares a) (length es)) lines (said_of a es) n (said_fits a es g.fits) g.within e g.same))
 
 -- so what any section begins, the forms that were looked for begin
-goes_so : (name : List ℕ) (lines : List (List ℕ)) (count n : ℕ) (a : Arrays) (es : List (List ℕ × ℤ)) → EntriesEnd name (drop 4 lines) count → Goes name lines n a es → BeginsSo name (shape (shares a) count) lines n
+goes_so : (name : List ℕ) (lines : List (List ℕ)) (count n : ℕ) (a : Arrays) (es : List (List ℕ × ℤ)) → EntriesEnd name (drop 4 lines) count
+    → Goes name lines n a es → BeginsSo name (shape (shares a) count) lines n
 goes_so name lines count n a es ends g =
     elim (cases_lt (length es) count) [
       | inl few ↦ elim (cases_lt (length es + 4) n) [
@@ -198,7 +207,8 @@ goes_so name lines count n a es ends g =
       ]
     ]
 
-pub goes_on : (v : Bool) (name : List ℕ) (lines : List (List ℕ)) (n : ℕ) → IsTrue (is_name name) → (b : Begins (first_line (version_text v) name ∷ lines) (n + 1)) → shares b.arrays ≡ v → b.arrays.name ≡ name
+pub goes_on : (v : Bool) (name : List ℕ) (lines : List (List ℕ)) (n : ℕ) → IsTrue (is_name name)
+    → (b : Begins (first_line (version_text v) name ∷ lines) (n + 1)) → shares b.arrays ≡ v → b.arrays.name ≡ name
     → Goes name lines n b.arrays b.entries
 goes_on v name lines n formed b shared named =
     let are = section_lines_are v name b.arrays b.entries shared named in
@@ -211,14 +221,16 @@ goes_on v name lines n formed b shared named =
       same = λ j lt. b.same (suc j) (omega (arith, lt)) ∙ ap (λ t. slice_get t (suc j)) are;
     }
 
-begins_so : (v : Bool) (name : List ℕ) (lines : List (List ℕ)) (count n : ℕ) → IsTrue (is_name name) → EntriesEnd name (drop 4 lines) count → Begins (first_line (version_text v) name ∷ lines) (n + 1)
+begins_so : (v : Bool) (name : List ℕ) (lines : List (List ℕ)) (count n : ℕ) → IsTrue (is_name name) → EntriesEnd name (drop 4 lines) count
+    → Begins (first_line (version_text v) name ∷ lines) (n + 1)
     → BeginsSo name (shape v count) lines n
 begins_so v name lines count n formed ends b =
     let first : Some (first_line (version_text v) name) ≡ Some (first_line (version_text (shares b.arrays)) b.arrays.name) = b.same 0 (omega arith) in
     let mark : (shares b.arrays ≡ v) × (b.arrays.name ≡ name) = one_mark (shares b.arrays) v b.arrays.name name cc in
     subst (λ w. BeginsSo name (shape w count) lines n) mark.0 (goes_so name lines count n b.arrays b.entries ends (goes_on v name lines n formed b mark.0 mark.1))
 
-bad_said : (v : Bool) (name : List ℕ) (lines : List (List ℕ)) (count k : ℕ) → IsTrue (is_name name) → EntriesEnd name (drop 4 lines) count → (bad : IsBadAt name (shape v count) lines k)
+bad_said : (v : Bool) (name : List ℕ) (lines : List (List ℕ)) (count k : ℕ) → IsTrue (is_name name) → EntriesEnd name (drop 4 lines) count
+    → (bad : IsBadAt name (shape v count) lines k)
     → SectionSaid v name count bad.before.said → IsBadLine (first_line (version_text v) name ∷ lines) (k + 1)
 bad_said v name lines count k formed ends bad s =
     let ss : List Said = bad.before.said in
@@ -240,7 +252,8 @@ bad_said v name lines count k formed ends bad s =
       none = λ b. bad.none (begins_so v name lines count (k + 1) formed ends b);
     }
 
-pub stops_bad : (v : Bool) (name : List ℕ) (lines : List (List ℕ)) (k : ℕ) → IsTrue (is_name name) → StopsAt v name lines k → IsBadLine (first_line (version_text v) name ∷ lines) (k + 1)
+pub stops_bad : (v : Bool) (name : List ℕ) (lines : List (List ℕ)) (k : ℕ) → IsTrue (is_name name) → StopsAt v name lines k
+    → IsBadLine (first_line (version_text v) name ∷ lines) (k + 1)
 stops_bad v name lines k formed s = bad_said v name lines s.count k formed s.ends s.bad (section_said v name s.count s.bad.before.said formed s.bad.before.agrees.fits)
 
 -- it stops at a line that is there, or behind the last one

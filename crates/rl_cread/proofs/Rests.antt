@@ -17,7 +17,8 @@ pub rest_from : (ls : List (Bor (List ℕ))) (n : ℕ) → map (λ l. l.now) (ta
 rest_from ls n = ap (map (λ l. l.now)) (take_all _ _ (omega (arith, length-drop n ls))) ∙ map_drop (λ l. l.now) ls n
 
 -- the line that is told is within the text, or the next one
-pub told_within : (v : Bool) (name : List ℕ) (ls rest : List (List ℕ)) (at place : ℕ) (e : Stop) → e ≡ stop.BadLine place → Stops v name rest e → rest ≡ drop (at + 1) ls → at < length ls → at + place + 1 ≤ length ls
+pub told_within : (v : Bool) (name : List ℕ) (ls rest : List (List ℕ)) (at place : ℕ) (e : Stop) → e ≡ stop.BadLine place → Stops v name rest e
+    → rest ≡ drop (at + 1) ls → at < length ls → at + place + 1 ≤ length ls
 told_within v name ls rest at place e is s same lt =
     let w = stops_within v name rest place (subst (Stops v name rest) is s) in
     let d = length-drop (at + 1) ls in

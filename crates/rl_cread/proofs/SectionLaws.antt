@@ -18,11 +18,10 @@ use Rattle.rl_cread.specs.declared.said.Label.{Label}
 use Rattle.rl_cread.specs.declared.said.Label.TheVariants as label
 use Rattle.rl_cread.specs.declared.said.Said.{Said}
 use Rattle.rl_cread.specs.declared.said.Said.TheVariants as the
-use Rattle.rl_cread.specs.declared.said.TheConstants.{BACK}
 use Rattle.rl_cread.specs.declared.raw.Raw.{Raw}
 use Rattle.rl_cread.specs.Contents.{content, Fits, IsPrintedNumber, IsPrintedName, IsPrintedEntry, IsPrintable}
 use Rattle.rl_cread.specs.Sections.{lines_with, version_text}
-use Rattle.rl_cread.specs.Lines.{line, AllFit, uses, tail, shape, saying, said_entry, tail_of, said_of}
+use Rattle.rl_cread.specs.Lines.{line, AllFit, uses, tail, shape, said_entry, tail_of, said_of}
 use Rattle.rl_cread.specs.Reading.{ReadsAs}
 use Rattle.rl_cread.specs.Gathering.{version_of, empty, with_numbers, with_names, put, filled}
 
@@ -223,7 +222,8 @@ record TheFirst (fs : List Form) (ss : List Said) : Type 0 where
   is : ss ≡ the.Numbers array.Actions actions ∷ the.Numbers array.KeyOffsets key_offsets ∷ the.Numbers array.TransKeys trans_keys ∷ the.Numbers array.SingleLengths single_lengths ∷ the.Numbers array.RangeLengths range_lengths ∷ the.Numbers array.CellOffsets cell_offsets ∷ rest
   more : Fit fs rest
 
-first : {fs : List Form} {ss : List Said} → Fit (form.Numbers array.Actions ∷ form.Numbers array.KeyOffsets ∷ form.Numbers array.TransKeys ∷ form.Numbers array.SingleLengths ∷ form.Numbers array.RangeLengths ∷ form.Numbers array.CellOffsets ∷ fs) ss → TheFirst fs ss
+first : {fs : List Form} {ss : List Said}
+    → Fit (form.Numbers array.Actions ∷ form.Numbers array.KeyOffsets ∷ form.Numbers array.TransKeys ∷ form.Numbers array.SingleLengths ∷ form.Numbers array.RangeLengths ∷ form.Numbers array.CellOffsets ∷ fs) ss → TheFirst fs ss
 first h =
     let u0 = numbers_first h in
     let u1 = numbers_first u0.more in
@@ -270,7 +270,8 @@ record TheSecond (fs : List Form) (ss : List Said) : Type 0 where
   is : ss ≡ the.Numbers array.CellAsks cell_asks ∷ the.Numbers array.CellEntries cell_entries ∷ the.Numbers array.TransTargs trans_targs ∷ the.Numbers array.TransLists trans_lists ∷ the.Numbers array.FromLists from_lists ∷ the.Numbers array.ToLists to_lists ∷ the.Numbers array.EofLists eof_lists ∷ the.Numbers array.ErrorLists error_lists ∷ rest
   more : Fit fs rest
 
-second : {fs : List Form} {ss : List Said} → Fit (form.Numbers array.CellAsks ∷ form.Numbers array.CellEntries ∷ form.Numbers array.TransTargs ∷ form.Numbers array.TransLists ∷ form.Numbers array.FromLists ∷ form.Numbers array.ToLists ∷ form.Numbers array.EofLists ∷ form.Numbers array.ErrorLists ∷ fs) ss → TheSecond fs ss
+second : {fs : List Form} {ss : List Said}
+    → Fit (form.Numbers array.CellAsks ∷ form.Numbers array.CellEntries ∷ form.Numbers array.TransTargs ∷ form.Numbers array.TransLists ∷ form.Numbers array.FromLists ∷ form.Numbers array.ToLists ∷ form.Numbers array.EofLists ∷ form.Numbers array.ErrorLists ∷ fs) ss → TheSecond fs ss
 second h =
     let u0 = numbers_first h in
     let u1 = numbers_first u0.more in
@@ -321,7 +322,8 @@ record TheThird (fs : List Form) (ss : List Said) : Type 0 where
   is : ss ≡ the.Numbers array.AcceptLists accept_lists ∷ the.Numbers array.StateKinds state_kinds ∷ the.Numbers array.Homes homes ∷ the.Names array.ActionNames action_names ∷ the.Numbers array.StmtFirsts stmt_firsts ∷ the.Numbers array.StmtCounts stmt_counts ∷ the.Numbers array.StmtKinds stmt_kinds ∷ rest
   more : Fit fs rest
 
-third : {fs : List Form} {ss : List Said} → Fit (form.Numbers array.AcceptLists ∷ form.Numbers array.StateKinds ∷ form.Numbers array.Homes ∷ form.Names array.ActionNames ∷ form.Numbers array.StmtFirsts ∷ form.Numbers array.StmtCounts ∷ form.Numbers array.StmtKinds ∷ fs) ss → TheThird fs ss
+third : {fs : List Form} {ss : List Said}
+    → Fit (form.Numbers array.AcceptLists ∷ form.Numbers array.StateKinds ∷ form.Numbers array.Homes ∷ form.Names array.ActionNames ∷ form.Numbers array.StmtFirsts ∷ form.Numbers array.StmtCounts ∷ form.Numbers array.StmtKinds ∷ fs) ss → TheThird fs ss
 third h =
     let u0 = numbers_first h in
     let u1 = numbers_first u0.more in
@@ -367,7 +369,8 @@ record TheFourth (fs : List Form) (ss : List Said) : Type 0 where
   is : ss ≡ the.Numbers array.StmtOuter stmt_outer ∷ the.Numbers array.StmtArgs stmt_args ∷ the.Numbers array.StmtBases stmt_bases ∷ the.Names array.CondNames cond_names ∷ the.Names array.EntryNames entry_names ∷ the.Numbers array.EntryStates entry_states ∷ rest
   more : Fit fs rest
 
-fourth : {fs : List Form} {ss : List Said} → Fit (form.Numbers array.StmtOuter ∷ form.Numbers array.StmtArgs ∷ form.Numbers array.StmtBases ∷ form.Names array.CondNames ∷ form.Names array.EntryNames ∷ form.Numbers array.EntryStates ∷ fs) ss → TheFourth fs ss
+fourth : {fs : List Form} {ss : List Said}
+    → Fit (form.Numbers array.StmtOuter ∷ form.Numbers array.StmtArgs ∷ form.Numbers array.StmtBases ∷ form.Names array.CondNames ∷ form.Names array.EntryNames ∷ form.Numbers array.EntryStates ∷ fs) ss → TheFourth fs ss
 fourth h =
     let u0 = numbers_first h in
     let u1 = numbers_first u0.more in
@@ -394,7 +397,8 @@ fourth h =
     }
 
 -- these in front
-link_all : {s0 s1 s2 s3 s4 s5 s6 : Said} {ss rest whole : List Said} → ss ≡ s0 ∷ s1 ∷ s2 ∷ s3 ∷ s4 ∷ s5 ∷ s6 ∷ rest → rest ≡ whole → ss ≡ s0 ∷ s1 ∷ s2 ∷ s3 ∷ s4 ∷ s5 ∷ s6 ∷ whole
+link_all : {s0 s1 s2 s3 s4 s5 s6 : Said} {ss rest whole : List Said} → ss ≡ s0 ∷ s1 ∷ s2 ∷ s3 ∷ s4 ∷ s5 ∷ s6 ∷ rest → rest ≡ whole
+    → ss ≡ s0 ∷ s1 ∷ s2 ∷ s3 ∷ s4 ∷ s5 ∷ s6 ∷ whole
 link_all {s0} {s1} {s2} {s3} {s4} {s5} {s6} e f = e ∙ ap (λ t. s0 ∷ s1 ∷ s2 ∷ s3 ∷ s4 ∷ s5 ∷ s6 ∷ t) f
 
 uses_link : (shared : Bool) (ns : List ℤ) {ss rest whole : List Said} → ss ≡ with_uses shared ns rest → rest ≡ whole → ss ≡ with_uses shared ns whole
@@ -404,7 +408,8 @@ link_eight : {s0 s1 s2 s3 s4 s5 s6 s7 : Said} {ss rest whole : List Said} → ss
     → ss ≡ s0 ∷ s1 ∷ s2 ∷ s3 ∷ s4 ∷ s5 ∷ s6 ∷ s7 ∷ whole
 link_eight {s0} {s1} {s2} {s3} {s4} {s5} {s6} {s7} e f = e ∙ ap (λ t. s0 ∷ s1 ∷ s2 ∷ s3 ∷ s4 ∷ s5 ∷ s6 ∷ s7 ∷ t) f
 
-link_six : {s0 s1 s2 s3 s4 s5 : Said} {ss rest whole : List Said} → ss ≡ s0 ∷ s1 ∷ s2 ∷ s3 ∷ s4 ∷ s5 ∷ rest → rest ≡ whole → ss ≡ s0 ∷ s1 ∷ s2 ∷ s3 ∷ s4 ∷ s5 ∷ whole
+link_six : {s0 s1 s2 s3 s4 s5 : Said} {ss rest whole : List Said} → ss ≡ s0 ∷ s1 ∷ s2 ∷ s3 ∷ s4 ∷ s5 ∷ rest → rest ≡ whole
+    → ss ≡ s0 ∷ s1 ∷ s2 ∷ s3 ∷ s4 ∷ s5 ∷ whole
 link_six {s0} {s1} {s2} {s3} {s4} {s5} e f = e ∙ ap (λ t. s0 ∷ s1 ∷ s2 ∷ s3 ∷ s4 ∷ s5 ∷ t) f
 
 -- a tail, with the line of uses told apart
@@ -506,7 +511,8 @@ tail_said shared ss h =
     }
 
 -- an array says the same whatever stands before the arrays
-same_fits : (a : Arrays) (version : ℤ) (name : List ℕ) (start first_final alphabet : ℤ) (x : ArrayName) → Fits (content a x) → Fits (content (record a { version = version; name = name; start = start; first_final = first_final; alphabet = alphabet }) x)
+same_fits : (a : Arrays) (version : ℤ) (name : List ℕ) (start first_final alphabet : ℤ) (x : ArrayName) → Fits (content a x)
+    → Fits (content (record a { version = version; name = name; start = start; first_final = first_final; alphabet = alphabet }) x)
 same_fits a v name s f l array.Actions h = h
 same_fits a v name s f l array.KeyOffsets h = h
 same_fits a v name s f l array.TransKeys h = h
@@ -673,7 +679,8 @@ append_nil : {A : Type 0} (xs : List A) → xs ++ [] ≡ xs
 append_nil [] = refl
 append_nil (x ∷ xs) = ap (λ t. x ∷ t) (append_nil xs)
 
-filled_entries : (es : List (List ℕ × ℤ)) (rest : List Said) (raw : Raw) → filled (map said_entry es ++ rest) raw ≡ filled rest (record raw { entries = raw.entries ++ es })
+filled_entries : (es : List (List ℕ × ℤ)) (rest : List Said) (raw : Raw)
+    → filled (map said_entry es ++ rest) raw ≡ filled rest (record raw { entries = raw.entries ++ es })
 filled_entries [] rest raw = ap (λ t. filled rest (record raw { entries = t })) (sym (append_nil raw.entries))
 filled_entries (e ∷ es) rest raw =
     filled_entries es rest (record raw { entries = raw.entries ++ (e ∷ []) }) ∙ ap (λ t. filled rest (record raw { entries = t })) (append_assoc raw.entries (e ∷ []) es)
@@ -685,17 +692,20 @@ filled_tail true a es v u = ap (λ n. record { arrays = record a { version = n }
 filled_tail false a es v u =
     ap (λ n. record { arrays = record a { version = n; cell_uses = [] }; entries = es }) (sym v) ∙ ap (λ ns. record { arrays = record a { cell_uses = ns }; entries = es }) (sym (u refl))
 
-pub filled_said : (a : Arrays) (es : List (List ℕ × ℤ)) → IsPrintable a es → filled (said_of a es) (record { arrays = empty (shares a) a.name; entries = [] }) ≡ record { arrays = a; entries = es }
+pub filled_said : (a : Arrays) (es : List (List ℕ × ℤ)) → IsPrintable a es
+    → filled (said_of a es) (record { arrays = empty (shares a) a.name; entries = [] }) ≡ record { arrays = a; entries = es }
 filled_said a es h =
     filled_entries es (tail_of (shares a) a) (record { arrays = record (empty (shares a) a.name) { start = a.start; first_final = a.first_final; alphabet = a.alphabet }; entries = [] })
     ∙ filled_tail (shares a) a es (version_is a.version h.version) h.uses
 
 -- and its lines are those of the section
-entries_lines : (name : List ℕ) (es : List (List ℕ × ℤ)) (rest : List Said) → map (line name) (map said_entry es ++ rest) ≡ map (entry_line name) es ++ map (line name) rest
+entries_lines : (name : List ℕ) (es : List (List ℕ × ℤ)) (rest : List Said)
+    → map (line name) (map said_entry es ++ rest) ≡ map (entry_line name) es ++ map (line name) rest
 entries_lines name [] rest = refl
 entries_lines name (e ∷ es) rest = ap (λ t. entry_line name e ∷ t) (entries_lines name es rest)
 
-tail_lines : (shared : Bool) (name : List ℕ) (a : Arrays) → map (line name) (tail_of shared a) ≡ map (λ x. array_line name x (elements a x)) (printed shared) ++ (last_line name ∷ [])
+tail_lines : (shared : Bool) (name : List ℕ) (a : Arrays)
+    → map (line name) (tail_of shared a) ≡ map (λ x. array_line name x (elements a x)) (printed shared) ++ (last_line name ∷ [])
 tail_lines true name a = refl
 tail_lines false name a = refl
 

@@ -46,7 +46,8 @@ fill_fits name [] lines (c ∷ cs) h = absurd h
 fill_fits name (f ∷ fs) [] (c ∷ cs) h = absurd h
 fill_fits name (f ∷ fs) (l ∷ lines) (c ∷ cs) h = (h.0, fill_fits name fs lines cs h.2)
 
-fill_same : (name : List ℕ) (fs : List Form) (lines : List (List ℕ)) (cs : List Said) → SoFar name fs lines cs → (j : ℕ) → j < length cs → slice_get lines j ≡ slice_get (map (line name) (fill fs cs)) j
+fill_same : (name : List ℕ) (fs : List Form) (lines : List (List ℕ)) (cs : List Said) → SoFar name fs lines cs → (j : ℕ) → j < length cs
+    → slice_get lines j ≡ slice_get (map (line name) (fill fs cs)) j
 unfolding fill
 fill_same name fs lines [] h j lt = absurd (omega arith)
 fill_same name [] lines (c ∷ cs) h j lt = absurd h
@@ -81,7 +82,8 @@ slot name (g ∷ fs) (c ∷ cs) zero f h e = let a : g ≡ f = cc in record { co
 slot name (g ∷ fs) (c ∷ cs) (suc j) f h e = let s = slot name fs cs j f h.1 e in record { content = s.content; fits = s.fits; is = s.is }
 
 -- no section has a missing line
-pub stuck_end : (name : List ℕ) (fs : List Form) (lines : List (List ℕ)) (j : ℕ) (f : Form) → slice_get fs j ≡ Some f → slice_get lines j ≡ None → BeginsSo name fs lines (j + 1) → ⊥
+pub stuck_end : (name : List ℕ) (fs : List Form) (lines : List (List ℕ)) (j : ℕ) (f : Form) → slice_get fs j ≡ Some f → slice_get lines j ≡ None
+    → BeginsSo name fs lines (j + 1) → ⊥
 stuck_end name fs lines j f ef el b =
     let s = slot name fs b.said j f b.agrees.fits ef in
     let same : slice_get lines j ≡ slice_get (map (line name) b.said) j = b.agrees.same j (omega arith) in
@@ -101,11 +103,13 @@ pub bad_end : (name : List ℕ) (fs : List Form) (lines : List (List ℕ)) (cs :
     → slice_get fs j ≡ Some f → slice_get lines j ≡ None → IsBadAt name fs lines j
 bad_end name fs lines cs j f h len ef el = record { within = slice_get_within fs j f ef; before = subst (BeginsSo name fs lines) len (begins name fs lines cs h); none = stuck_end name fs lines j f ef el }
 
-pub bad_line : (name : List ℕ) (fs : List Form) (lines : List (List ℕ)) (cs : List Said) (j : ℕ) (f : Form) (l : List ℕ) → SoFar name fs lines cs → length cs ≡ j
+pub bad_line : (name : List ℕ) (fs : List Form) (lines : List (List ℕ)) (cs : List Said) (j : ℕ) (f : Form) (l : List ℕ) → SoFar name fs lines cs
+    → length cs ≡ j
     → slice_get fs j ≡ Some f → slice_get lines j ≡ Some l → ((c : Said) → FitsForm f c → l ≡ line name c → ⊥) → IsBadAt name fs lines j
 bad_line name fs lines cs j f l h len ef el none = record { within = slice_get_within fs j f ef; before = subst (BeginsSo name fs lines) len (begins name fs lines cs h); none = stuck_line name fs lines j f l ef el none }
 
-pub one_more : (name : List ℕ) (fs : List Form) (lines : List (List ℕ)) (cs : List Said) (j : ℕ) (f : Form) (l : List ℕ) (c : Said) → SoFar name fs lines cs → length cs ≡ j
+pub one_more : (name : List ℕ) (fs : List Form) (lines : List (List ℕ)) (cs : List Said) (j : ℕ) (f : Form) (l : List ℕ) (c : Said)
+    → SoFar name fs lines cs → length cs ≡ j
     → slice_get fs j ≡ Some f → slice_get lines j ≡ Some l → FitsForm f c × (l ≡ line name c) → SoFar name fs lines (cs ++ (c ∷ []))
 one_more name fs lines cs j f l c h len ef el r = more name fs lines cs f l c h (ap (slice_get fs) len ∙ ef) (ap (slice_get lines) len ∙ el) r
 
@@ -116,7 +120,8 @@ fill_all [] (c ∷ cs) e = absurd (omega arith)
 fill_all (f ∷ fs) [] e = absurd (omega arith)
 fill_all (f ∷ fs) (c ∷ cs) e = ap (λ t. c ∷ t) (fill_all fs cs (omega arith))
 
-pub agrees_all : (name : List ℕ) (fs : List Form) (lines : List (List ℕ)) (cs : List Said) → SoFar name fs lines cs → length cs ≡ length fs → Agrees name fs lines (length fs) cs
+pub agrees_all : (name : List ℕ) (fs : List Form) (lines : List (List ℕ)) (cs : List Said) → SoFar name fs lines cs → length cs ≡ length fs
+    → Agrees name fs lines (length fs) cs
 agrees_all name fs lines cs h len =
     let a : Agrees name fs lines (length cs) (fill fs cs) = record { fits = fill_fits name fs lines cs h; same = fill_same name fs lines cs h } in
     subst (λ t. Agrees name fs lines (length fs) t) (fill_all fs cs len) (subst (λ n. Agrees name fs lines n (fill fs cs)) len a)
@@ -126,14 +131,18 @@ length_push [] c = refl
 length_push (d ∷ cs) c = omega (arith, length_push cs c)
 
 -- what was read of a line, where something was or where nothing was
-pub read_some : (name : List ℕ) (f : Form) (text : List ℕ) (r : Option Said) (x : Said) → r ≡ Some x → ReadsLine name f text r → FitsForm f x × (text ≡ line name x)
+pub read_some : (name : List ℕ) (f : Form) (text : List ℕ) (r : Option Said) (x : Said) → r ≡ Some x → ReadsLine name f text r
+    → FitsForm f x × (text ≡ line name x)
 read_some name f text None x e h = absurd cc
 read_some name f text (Some y) x e h = let a : y ≡ x = cc in subst (λ z. FitsForm f z × (text ≡ line name z)) a h
 
-pub read_none : (name : List ℕ) (f : Form) (text : List ℕ) (r : Option Said) → r ≡ None → ReadsLine name f text r → (c : Said) → FitsForm f c → text ≡ line name c → ⊥
+pub read_none : (name : List ℕ) (f : Form) (text : List ℕ) (r : Option Said) → r ≡ None → ReadsLine name f text r → (c : Said) → FitsForm f c
+    → text ≡ line name c → ⊥
 read_none name f text None e h = h
 read_none name f text (Some y) e h = absurd cc
 
-pub no_entry_said : (name text : List ℕ) → ((word : List ℕ) (n : ℤ) → IsTrue (is_name word) → IsPrintedNumber n → text ≡ entry_line name (word, n) → ⊥) → (s : Said) → FitsForm form.Entry s → text ≡ line name s → ⊥
+pub no_entry_said : (name text : List ℕ)
+    → ((word : List ℕ) (n : ℤ) → IsTrue (is_name word) → IsPrintedNumber n → text ≡ entry_line name (word, n) → ⊥) → (s : Said)
+    → FitsForm form.Entry s → text ≡ line name s → ⊥
 no_entry_said name text h (the.Entry word n) f e = h word n f.0 f.1 e
 no_entry_said name text h s f e = f

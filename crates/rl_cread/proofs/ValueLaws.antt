@@ -52,7 +52,8 @@ NamedAt names k entry = IsSomeAnd (slice_get names k) (λ name. entry.0 ≡ name
 abbrev StateAt : List ℤ → ℕ → List ℕ × ℤ → Type 0
 StateAt states k entry = IfAt states k (λ state. entry.1 ≡ state)
 
-all_named : (lines : List (List ℕ × ℤ)) (names : List (List ℕ)) → length lines ≡ length names → ((k : ℕ) → k < length lines → IsSomeAnd (slice_get lines k) (NamedAt names k)) → map (λ e. e.0) lines ≡ names
+all_named : (lines : List (List ℕ × ℤ)) (names : List (List ℕ)) → length lines ≡ length names
+    → ((k : ℕ) → k < length lines → IsSomeAnd (slice_get lines k) (NamedAt names k)) → map (λ e. e.0) lines ≡ names
 all_named [] [] e h = refl
 all_named [] (n ∷ names) e h = absurd (omega (arith, e))
 all_named (l ∷ lines) [] e h = absurd (omega (arith, e))
@@ -66,11 +67,13 @@ named_at [] k lt = absurd (omega arith)
 named_at (l ∷ lines) zero lt = refl
 named_at (l ∷ lines) (suc k) lt = named_at lines k (omega (arith, lt))
 
-one_on : (lines : List (List ℕ × ℤ)) (names : List (List ℕ)) (k : ℕ) → IsSomeAnd (slice_get lines k) (NamedAt (drop 1 names) k) ≡ IsSomeAnd (slice_get lines k) (NamedAt names (k + 1))
+one_on : (lines : List (List ℕ × ℤ)) (names : List (List ℕ)) (k : ℕ)
+    → IsSomeAnd (slice_get lines k) (NamedAt (drop 1 names) k) ≡ IsSomeAnd (slice_get lines k) (NamedAt names (k + 1))
 one_on lines names k = ap (λ o. IsSomeAnd (slice_get lines k) (λ e. IsSomeAnd o (λ n. e.0 ≡ n))) (get_one names k)
 
 -- entry lines as many as the names behind the first one, each of which agrees, are those of the arrays
-pub entries_agree : (a : Arrays) (lines : List (List ℕ × ℤ)) → length lines ≡ length a.entry_names - 1 → ((k : ℕ) → k < length lines → IsEntryAt lines a.entry_names a.entry_states k) → AreEntries a lines
+pub entries_agree : (a : Arrays) (lines : List (List ℕ × ℤ)) → length lines ≡ length a.entry_names - 1
+    → ((k : ℕ) → k < length lines → IsEntryAt lines a.entry_names a.entry_states k) → AreEntries a lines
 entries_agree a lines e h = record {
   names = all_named lines (drop 1 a.entry_names) (let l = length_one a.entry_names in omega (arith, e, l))
       (λ k lt. subst (λ T. T) (sym (one_on lines a.entry_names k)) (both_first (NamedAt a.entry_names (k + 1)) (StateAt a.entry_states (k + 1)) (slice_get lines k) (h k lt)));
@@ -107,7 +110,8 @@ no_more m n h =
 pub has_due : (a : Arrays) (x : ArrayName) → Valid a → has a x ≡ due a x
 has_due a x v = no_more (has a x) (due a x) (λ k lt. let r = v.each x k lt in (r.there, r.due))
 
-zip_is : (lines : List (List ℕ × ℤ)) (names : List (List ℕ)) (states : List ℤ) → map (λ e. e.0) lines ≡ names → length states ≡ length names → ((i : ℕ) → IfSome (slice_get lines i) (StateAt states i))
+zip_is : (lines : List (List ℕ × ℤ)) (names : List (List ℕ)) (states : List ℤ) → map (λ e. e.0) lines ≡ names → length states ≡ length names
+    → ((i : ℕ) → IfSome (slice_get lines i) (StateAt states i))
     → lines ≡ zip names states
 zip_is [] [] states e l h = refl
 zip_is [] (n ∷ names) states e l h = absurd cc
@@ -198,11 +202,13 @@ each_sound a v None = tt
 each_sound a v (Some x) = v.each x
 
 -- valid arrays with other entry lines
-pub valid_disagrees : (a : Arrays) (lines : List (List ℕ × ℤ)) → Valid a → (AreEntries a lines → ⊥) → IsFirstBad a lines (record { array = array.EntryStates; index = 0 })
+pub valid_disagrees : (a : Arrays) (lines : List (List ℕ × ℤ)) → Valid a → (AreEntries a lines → ⊥)
+    → IsFirstBad a lines (record { array = array.EntryStates; index = 0 })
 valid_disagrees a lines v ne = inr (ne, (λ k lt. each_sound a v (slice_get ORDER k)), refl)
 
 -- arrays whose last one alone is wrong, with other entry lines
-pub last_disagrees : (a : Arrays) (lines : List (List ℕ × ℤ)) (bad : BadValue) → IsVersioned a → IsBad a bad → bad.array ≡ array.EntryStates → (AreEntries a lines → ⊥)
+pub last_disagrees : (a : Arrays) (lines : List (List ℕ × ℤ)) (bad : BadValue) → IsVersioned a → IsBad a bad → bad.array ≡ array.EntryStates
+    → (AreEntries a lines → ⊥)
     → IsFirstBad a lines (record { array = array.EntryStates; index = 0 })
 last_disagrees a lines bad v (inl b) e ne = absurd (b.version v)
 last_disagrees a lines bad v (inr b) e ne =
