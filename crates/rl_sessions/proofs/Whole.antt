@@ -1,5 +1,5 @@
 -- A session's calls are those of the run from its start.
-use Rattle.std.proofs.Common.{◌≡◌, ℕ, zero, suc, ◌+◌, ◌*◌, ◌-◌, ◌<◌, ◌≤◌, ◌^◌, Bool, true, false, cond, List, [], ◌∷◌, ◌++◌, map, length, Option, Some, None, refl, sym, ◌∙◌, ap, subst, arith, nat_lt, append-nil}
+use Rattle.std.proofs.Common.{◌≡◌, ℕ, zero, suc, ◌*◌, ◌-◌, ◌<◌, ◌≤◌, Bool, true, false, cond, List, [], ◌∷◌, ◌++◌, map, length, Option, Some, None, refl, sym, ◌∙◌, ap, subst, arith, nat_lt, append-nil}
 use Rattle.std.specs.Prelude.{◌/◌, slice_get}
 use Rattle.rl_types.specs.Alphabet.{characters}
 use Rattle.std.proofs.Math.Nat.{div-le_self}
@@ -18,14 +18,13 @@ use Rattle.rl_run.specs.Turn.{turn}
 use Rattle.rl_run.specs.Run.{Input, Rest, rest, input_at, letter, after, at_end, at_letter, turns}
 use Rattle.rl_run.specs.Play.{Play, done, ask, AllEnds, Log, ended, stands, run}
 use Rattle.rl_run.specs.Chain.{Chain, Extends, IsLogOf, run_on}
-use Rattle.rl_run.specs.Fine.{IsKinded, IsFine, weight}
+use Rattle.rl_run.specs.Fine.{IsKinded, weight}
 use Rattle.rl_run.specs.Laws.{IsLonger}
 use Rattle.rl_run.proofs.Answers.{is_continued, is_stopped}
 use Rattle.rl_run.proofs.Ends.{leaves_bind}
 use Rattle.rl_run.proofs.Starts.{start_fine}
 use Rattle.rl_runner.specs.Feeds.{over_after}
 use Rattle.rl_runner.proofs.Letters.{limit, letter_past}
-use Rattle.rl_sessions.specs.Runs.{Takes, Ends}
 use Rattle.rl_sessions.specs.SessionsValue.{SessionValue, started}
 use Rattle.rl_sessions.specs.Whole.{outcome_so_far, HasRun, PiecesRunOn, EndsRunOut}
 use Rattle.rl_sessions.proofs.Laws.{nothing_dropped}
