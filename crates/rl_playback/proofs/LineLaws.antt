@@ -1,7 +1,8 @@
 -- A replay stands behind the line at a place of the script.
-use Rattle.std.proofs.Common.{◌≡◌, ◌≢◌, ℕ, suc, ◌+◌, ◌<◌, ◌^◌, Bool, true, false, nat_le, ◌==◌, List, [], ◌∷◌, ◌++◌, length, take, drop, get_or, Option, Some, None, sym, ◌∙◌, ap, subst}
+use Rattle.std.proofs.Common.{◌≡◌, ◌≢◌, ℕ, suc, ◌+◌, ◌*◌, ◌<◌, ◌^◌, Bool, true, false, nat_le, ◌==◌, List, [], ◌∷◌, ◌++◌, length, take, drop, get_or, Option, Some, None, sym, ◌∙◌, ap, subst}
 use Rattle.rl_run.specs.declared.calls.Verdict.TheVariants.{Error}
 use Rattle.rl_arrays.specs.declared.arrays.Arrays.{Arrays}
+use Rattle.rl_arrays.specs.TableMachine.{machine}
 use Rattle.rl_tables.proofs.Kinded.{is_kinded}
 use Rattle.rl_replay.specs.declared.script.Event.{Event}
 use Rattle.rl_replay.specs.declared.script.Event.TheVariants.{Open, Piece, End, Pick, Say}
@@ -52,9 +53,10 @@ module _ (script : List Line) (place : ℕ) (a : Arrays) (log : Log) (sessions :
     names_none : opened_by line.event ≡ None
     names_none = ap (λ v. opened_by v) is
 
-    pub piece_room : (n p : List ℕ) → n ≡ name → p ≡ piece → (x : SessionValue) → find n sessions.all ≡ Some x → verdict_in sessions.tables x ≢ Error → x.base + length x.window + length p < 2 ^ 63
+    pub piece_room : (n p : List ℕ) → n ≡ name → p ≡ piece → (x : SessionValue) → find n sessions.all ≡ Some x → verdict_in sessions.tables x ≢ Error →
+        (machine sessions.tables).width * x.base + length x.window + length p < 2 ^ 63
     piece_room n p e f x found h =
-        let P : List ℕ → Type 0 = λ bytes. x.base + length x.window + length bytes < 2 ^ 63 in
+        let P : List ℕ → Type 0 = λ bytes. (machine sessions.tables).width * x.base + length x.window + length bytes < 2 ^ 63 in
         subst P (ap (λ v. feeding_of v) is ∙ sym f)
         (has_room script past a line (is_kinded a st.valid) log sessions st (drop (suc place) script) whole piece_live.0 piece_live.1 names_none x
         (ap (λ s. find s sessions.all) (ap (λ v. session_of v) is ∙ sym e) ∙ found) h)

@@ -1,5 +1,5 @@
 -- What each sort of line does, a replay stands behind.
-use Rattle.std.proofs.Common.{◌≡◌, ◌≢◌, ℕ, ◌+◌, ◌-◌, ◌≤◌, ◌<◌, ◌^◌, Bool, true, false, cond, inl, inr, List, [], ◌∷◌, ◌++◌, length, filter_map, Option, Some, None, is_some, unwrap_or, option_map, refl, sym, ◌∙◌, ap, subst, append-nil, length-append, length-drop, arith}
+use Rattle.std.proofs.Common.{◌≡◌, ◌≢◌, ℕ, ◌+◌, ◌-◌, ◌*◌, ◌≤◌, ◌<◌, ◌^◌, Bool, true, false, cond, inl, inr, List, [], ◌∷◌, ◌++◌, length, filter_map, Option, Some, None, is_some, unwrap_or, option_map, refl, sym, ◌∙◌, ap, subst, append-nil, length-append, length-drop, arith}
 use Rattle.rl_run.specs.declared.calls.Outcome.{Outcome}
 use Rattle.rl_run.specs.declared.calls.Outcome.TheVariants.{Wants, Broke, Ended, Stopped}
 use Rattle.rl_run.specs.declared.calls.Stop.{Stop}
@@ -8,7 +8,7 @@ use Rattle.rl_run.specs.declared.sessions.Settings.{Settings}
 use Rattle.rl_run.specs.Chain.{Played, run_on}
 use Rattle.rl_run.specs.Fine.{IsKinded}
 use Rattle.rl_run.specs.Machine.{Machine, Session, fresh}
-use Rattle.rl_run.specs.Run.{Input, rest}
+use Rattle.rl_run.specs.Run.{Input, rest, input_at}
 use Rattle.rl_run.specs.Verdict.{verdict_of}
 use Rattle.rl_run.proofs.Cuts.{plays}
 use Rattle.rl_arrays.specs.declared.arrays.Arrays.{Arrays}
@@ -115,7 +115,7 @@ module _ (script past : List Line) (a : Arrays) (line : Line) (kinded : IsKinded
   -- a session that goes on
   goes : (log : Log) (x : SessionValue) (r : Ready log x) → x.over ≡ None → (first mid : Log) → first.books ≡ log.books → first.text ≡ log.text → tables_of first ≡ a → first.session.now ≡ s →
       mid.is_full ≡ false → (u : Session ℕ) (o : Outcome) →
-      Played LogsCall first (run_on false (machine a) default_settings (record { base = 0; bytes = fed at ++ feeding_of line.event; is_closed = is_end line.event }) x.session) mid (rest (Some o) u) →
+      Played LogsCall first (run_on false (machine a) default_settings (input_at (machine a).width 0 (fed at ++ feeding_of line.event) (is_end line.event)) x.session) mid (rest (Some o) u) →
       Moved names a kinded s own at line first mid u o
   goes log x r e first mid same_books same_text at_tables at_session room u o p =
       let P : Books → Type 0 = λ books. Counts (machine a) s own r.come.calls books in
@@ -180,15 +180,17 @@ module _ (script past : List Line) (a : Arrays) (line : Line) (kinded : IsKinded
     not_stopped x h e = h (ap (λ v. verdict_in v x) st.machine_tables ∙ e)
 
     -- there is room for the piece
-    pub has_room : (x : SessionValue) → find s sessions.all ≡ Some x → verdict_in sessions.tables x ≢ Error → x.base + length x.window + length (feeding_of line.event) < 2 ^ 63
+    pub has_room : (x : SessionValue) → find s sessions.all ≡ Some x → verdict_in sessions.tables x ≢ Error → (machine sessions.tables).width * x.base + length x.window + length (feeding_of line.event) < 2 ^ 63
     has_room x found h =
         let r = ready x found in
         let w = r.come.window (going_wants (machine a) x r.come.stopped (not_stopped x h)) in
-        let within : x.base ≤ length (fed at) = w.within in
-        let e : length (fed at) - x.base ≡ length x.window = sym (length-drop x.base (fed at)) ∙ ap length w.same in
-        let f : length (fed at ++ feeding_of line.event) ≡ length (fed at) + length (feeding_of line.event) = length-append (fed at) (feeding_of line.event) in
-        let g : length (fed at ++ feeding_of line.event) < 2 ^ 63 = r.limit in
-        omega arith
+        let P : Arrays → Type 0 = λ v. (machine v).width * x.base + length x.window + length (feeding_of line.event) < 2 ^ 63 in
+        subst P (sym st.machine_tables)
+        (fits ((machine a).width * x.base) (length (fed at)) (length x.window) (length (feeding_of line.event)) (length (fed at ++ feeding_of line.event)) w.within
+        (sym (length-drop ((machine a).width * x.base) (fed at)) ∙ ap length w.same) (length-append (fed at) (feeding_of line.event)) r.limit)
+      where
+        fits : (base all window piece more : ℕ) → base ≤ all → all - base ≡ window → more ≡ all + piece → more < 2 ^ 63 → base + window + piece < 2 ^ 63
+        fits base all window piece more within e f g = omega arith
 
     module _ (session : Text) (is_own : session.now ≡ s) where
       abbrev first : Log
@@ -196,14 +198,14 @@ module _ (script past : List Line) (a : Arrays) (line : Line) (kinded : IsKinded
 
       -- a play of the session on its longer input
       moved_on : (x y : SessionValue) (r : Ready log x) → x.over ≡ None → (mid : Log) → mid.is_full ≡ false → (o : Outcome) (input : Input) →
-          input ≡ record { base = 0; bytes = fed at ++ feeding_of line.event; is_closed = is_end line.event } →
+          input ≡ input_at (machine a).width 0 (fed at ++ feeding_of line.event) (is_end line.event) →
           Played LogsCall first (run_on false (machine sessions.tables) sessions.settings input x.session) mid (rest (Some o) y.session) →
           Moved names a kinded s own at line first mid y.session o × Between s first mid
       moved_on x y r over_none mid room o input input_is p =
           let P : Arrays → Type 0 = λ v. Played LogsCall first (run_on false (machine v) sessions.settings input x.session) mid (rest (Some o) y.session) in
           let Q : Settings → Type 0 = λ v. Played LogsCall first (run_on false (machine a) v input x.session) mid (rest (Some o) y.session) in
           let R : Input → Type 0 = λ v. Played LogsCall first (run_on false (machine a) default_settings v x.session) mid (rest (Some o) y.session) in
-          let q : Played LogsCall first (run_on false (machine a) default_settings (record { base = 0; bytes = fed at ++ feeding_of line.event; is_closed = is_end line.event }) x.session) mid (rest (Some o) y.session)
+          let q : Played LogsCall first (run_on false (machine a) default_settings (input_at (machine a).width 0 (fed at ++ feeding_of line.event) (is_end line.event)) x.session) mid (rest (Some o) y.session)
           = subst R input_is (subst Q st.settings (subst P st.machine_tables p)) in (
             goes log x r over_none first mid refl refl st.tables is_own room y.session o q,
             between a s first mid _ (rest (Some o) y.session) (plays LogsCall first mid _ q.log (rest (Some o) y.session) q.chain q.calls) room st.tables is_own,
@@ -223,7 +225,14 @@ module _ (script past : List Line) (a : Arrays) (line : Line) (kinded : IsKinded
       is_error x found h = sym (ap (λ v. verdict_in v x) st.machine_tables) ∙ h x found
 
       abbrev closing : List ℕ → Bool → Input
-      closing bytes b = record { base = 0; bytes = bytes; is_closed = b }
+      closing bytes b = input_at (machine a).width 0 bytes b
+
+      -- the window, by the width of the sessions' tables and of the machine's
+      its_window : (x : SessionValue) → IsWindowOf (machine a).width (fed at) x → IsWindowOf (machine sessions.tables).width (fed at) x
+      its_window x w = let P : Arrays → Type 0 = λ v. IsWindowOf (machine v).width (fed at) x in subst P (sym st.machine_tables) w
+
+      at_width : (y : SessionValue) (bytes : List ℕ) → IsWindowOf (machine sessions.tables).width bytes y → IsWindowOf (machine a).width bytes y
+      at_width y bytes w = let P : Arrays → Type 0 = λ v. IsWindowOf (machine v).width bytes y in subst P st.machine_tables w
 
       -- a piece is run
       fed_on : (last : Log) (later : SessionsValue) → is_end line.event ≡ false → FeedsOn s sessions later first last (feeding_of line.event) → Stands script (past ++ line ∷ []) a last later
@@ -235,11 +244,11 @@ module _ (script past : List Line) (a : Arrays) (line : Line) (kinded : IsKinded
           let r = ready x found in
           let over_none = going_wants (machine a) x r.come.stopped (not_error x found f.going) in
           let runs = t.takes.going over_none in
-          let input_is : window_of 0 (fed at ++ feeding_of line.event) ≡ record { base = 0; bytes = fed at ++ feeding_of line.event; is_closed = is_end line.event } =
-          ap (λ b. closing (fed at ++ feeding_of line.event) b) (sym not_end) in
-          let (moved, aside) = moved_on x y r over_none f.mid f.room f.outcome (window_of 0 (fed at ++ feeding_of line.event)) input_is (runs.played (fed at) (r.come.window over_none)) in
+          let input_is : window_of (machine sessions.tables).width 0 (fed at ++ feeding_of line.event) ≡ input_at (machine a).width 0 (fed at ++ feeding_of line.event) (is_end line.event) =
+          ap (λ v. window_of (machine v).width 0 (fed at ++ feeding_of line.event)) st.machine_tables ∙ ap (λ b. closing (fed at ++ feeding_of line.event) b) (sym not_end) in
+          let (moved, aside) = moved_on x y r over_none f.mid f.room f.outcome (window_of (machine sessions.tables).width 0 (fed at ++ feeding_of line.event)) input_is (runs.played (fed at) (its_window x (r.come.window over_none))) in
           let C : Books → Type 0 = λ books. Counts (machine a) s own moved.calls books in
-          let W : List ℕ → Type 0 = λ bytes. IsWindowOf bytes y in
+          let W : List ℕ → Type 0 = λ bytes. IsWindowOf (machine a).width bytes y in
           put y x last later found t.takes.name t.becomes.others
           (f.adds.tables ∙ aside.same_log.tables ∙ st.tables) (f.adds.room ∙ f.room) (aside_of s first f.mid last.books aside f.adds.books)
           (record {
@@ -249,9 +258,9 @@ module _ (script past : List Line) (a : Arrays) (line : Line) (kinded : IsKinded
               calls = moved.calls;
               run = moved.run ∙ ap (λ p. run_pair moved.calls (Some p) y.session) (sym (outcome_kept f.outcome runs.unbroken) ∙ ap outcome_of (sym runs.over));
               counts = subst C (sym f.adds.books) moved.counts;
-              window = λ e. subst W (sym (fed_more at line)) (runs.window e (fed at) (r.come.window over_none));
+              window = λ e. subst W (sym (fed_more at line)) (at_width y (fed at ++ feeding_of line.event) (runs.window e (fed at) (its_window x (r.come.window over_none))));
               stopped = λ outcome e. stops_only f.outcome outcome
-                  (λ ended. never_ends (machine a) default_settings (input_of now) (ended_more at line open_yet ∙ not_end) (host (machine a) own) [] moved.calls
+                  (λ ended. never_ends (machine a) default_settings (input_of (machine a).width now) (ended_more at line open_yet ∙ not_end) (host (machine a) own) [] moved.calls
                   (fresh ((machine a).entry (entry_of names now))) y.session (moved.run ∙ ap (λ p. run_pair moved.calls (Some p) y.session) ended))
                   (sym runs.over ∙ e);
             };
@@ -334,9 +343,9 @@ module _ (script past : List Line) (a : Arrays) (line : Line) (kinded : IsKinded
           let found = t.becomes.found in
           let r = ready x found in
           let runs = t.ends.going over_none in
-          let (moved, aside) = moved_on x y r over_none f.mid f.room f.outcome (closed_of 0 (fed at))
-          (ap (λ bytes. closing bytes true) (sym (append-nil (fed at)) ∙ ap (λ bytes. fed at ++ bytes) (sym no_bytes)) ∙ ap (λ b. closing (fed at ++ feeding_of line.event) b) (sym ends))
-          (runs.played (fed at) (r.come.window over_none)) in
+          let (moved, aside) = moved_on x y r over_none f.mid f.room f.outcome (closed_of (machine sessions.tables).width 0 (fed at))
+          (ap (λ v. closed_of (machine v).width 0 (fed at)) st.machine_tables ∙ ap (λ bytes. closing bytes true) (sym (append-nil (fed at)) ∙ ap (λ bytes. fed at ++ bytes) (sym no_bytes)) ∙ ap (λ b. closing (fed at ++ feeding_of line.event) b) (sym ends))
+          (runs.played (fed at) (its_window x (r.come.window over_none))) in
           let later_found = found_later x y later t.becomes t.ends.name in
           let later_tables = ap (λ (v : SessionsValue). v.tables) t.becomes.others ∙ st.machine_tables in
           put y x last later found t.ends.name t.becomes.others

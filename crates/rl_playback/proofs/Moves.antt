@@ -1,5 +1,5 @@
 -- A session's run goes on over one more of its lines.
-use Rattle.std.proofs.Common.{◌≡◌, ◌≢◌, ℕ, ◌<◌, ◌^◌, Bool, true, false, List, [], ◌∷◌, ◌++◌, length, drop, Option, Some, None, is_some, unwrap_or, refl, sym, ◌∙◌, ap, append_assoc, arith}
+use Rattle.std.proofs.Common.{◌≡◌, ◌≢◌, ℕ, ◌<◌, ◌^◌, Bool, true, false, List, [], ◌∷◌, ◌++◌, length, drop, Option, Some, None, is_some, unwrap_or, refl, sym, ◌∙◌, ap, append_assoc}
 use Rattle.rl_run.specs.declared.calls.Call.{Call}
 use Rattle.rl_run.specs.declared.calls.Outcome.{Outcome}
 use Rattle.rl_run.specs.declared.calls.Outcome.TheVariants.{Wants, Broke, Ended, Stopped}
@@ -8,7 +8,7 @@ use Rattle.rl_run.specs.Chain.{run_on}
 use Rattle.rl_run.specs.Fine.{IsKinded, IsFine}
 use Rattle.rl_run.specs.Hosted.{hosted}
 use Rattle.rl_run.specs.Machine.{Machine, Session, fresh}
-use Rattle.rl_run.specs.Run.{Input, Rest, rest}
+use Rattle.rl_run.specs.Run.{Input, Rest, rest, input_at}
 use Rattle.rl_run.proofs.Starts.{start_fine}
 use Rattle.rl_arrays.specs.declared.arrays.Arrays.{Arrays}
 use Rattle.rl_arrays.specs.TableMachine.{machine}
@@ -24,7 +24,7 @@ use Rattle.rl_playback.specs.Log.{stop_text}
 use Rattle.rl_playback.specs.Stands.{Counts, outcome_of}
 use Rattle.rl_playback.proofs.Between.{Told, told}
 use Rattle.rl_playback.proofs.Continued.{wants_on, stops_on}
-use Rattle.rl_playback.proofs.Texts.{ended_more, opened_same, input_more, extends_more, end_text, lines_by, grown, grown_stopped, stop_same, session_text}
+use Rattle.rl_playback.proofs.Texts.{ended_more, opened_same, input_more, extends_more, few_characters, end_text, lines_by, grown, grown_stopped, stop_same, session_text}
 
 -- what an over session keeps is its stop
 pub outcome_kept : (o : Outcome) → o ≢ Broke → outcome_of (over_after o) ≡ o
@@ -44,7 +44,7 @@ module _ (names : Names) (a : Arrays) (kinded : IsKinded (machine a)) (s : List 
   now = past ++ line ∷ []
 
   abbrev long : Bool → Input
-  long closed = record { base = 0; bytes = fed past ++ feeding_of line.event; is_closed = closed }
+  long closed = input_at m.width 0 (fed past ++ feeding_of line.event) closed
 
   abbrev start : List Line → Session ℕ
   start lines = fresh (m.entry (entry_of names lines))
@@ -56,7 +56,7 @@ module _ (names : Names) (a : Arrays) (kinded : IsKinded (machine a)) (s : List 
   run_now : is_opened past ≡ true → is_ended past ≡ false → (r : List Call × Rest ℕ) →
       hosted (host m own) [] (run_on false m default_settings (long (is_end line.event)) (start past)) ≡ r → host_run names m default_settings own now ≡ r
   run_now opened open_yet r e =
-      ap (λ input. hosted (host m own) [] (run_on false m default_settings input (start now))) (input_more past line open_yet)
+      ap (λ input. hosted (host m own) [] (run_on false m default_settings input (start now))) (input_more past line m.width open_yet)
       ∙ ap (λ o. hosted (host m own) [] (run_on false m default_settings (long (is_end line.event)) (fresh (m.entry (entry_or_start names (unwrap_or o None)))))) (opened_same past line opened)
       ∙ e
 
@@ -67,8 +67,8 @@ module _ (names : Names) (a : Arrays) (kinded : IsKinded (machine a)) (s : List 
       host_run names m default_settings own now ≡ run_pair more (Some o) u
   goes_on opened open_yet limit calls more t u o first second =
       run_now opened open_yet (run_pair more (Some o) u)
-      (wants_on m default_settings (host m own) kinded (input_of past) (long (is_end line.event)) open_yet
-      (extends_more (fed past) (feeding_of line.event) (is_ended past) (is_end line.event)) (omega (arith, limit)) refl
+      (wants_on m default_settings (host m own) kinded (input_of m.width past) (long (is_end line.event)) open_yet
+      (extends_more m.width (fed past) (feeding_of line.event) (is_ended past) (is_end line.event)) (few_characters m.width (fed past ++ feeding_of line.event) limit) refl
       (start past) t u calls more o start_is_fine first second)
 
   -- a run that has stopped stays so
@@ -77,8 +77,8 @@ module _ (names : Names) (a : Arrays) (kinded : IsKinded (machine a)) (s : List 
       host_run names m default_settings own now ≡ run_pair calls (Some (Stopped cause)) t
   stays_stopped opened open_yet limit calls t cause first =
       run_now opened open_yet (run_pair calls (Some (Stopped cause)) t)
-      (stops_on m default_settings (host m own) kinded (input_of past) (long (is_end line.event)) open_yet
-      (extends_more (fed past) (feeding_of line.event) (is_ended past) (is_end line.event)) (omega (arith, limit)) refl
+      (stops_on m default_settings (host m own) kinded (input_of m.width past) (long (is_end line.event)) open_yet
+      (extends_more m.width (fed past) (feeding_of line.event) (is_ended past) (is_end line.event)) (few_characters m.width (fed past ++ feeding_of line.event) limit) refl
       (start past) t calls cause start_is_fine first)
 
   abbrev pub gain : List ℕ

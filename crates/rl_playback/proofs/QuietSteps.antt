@@ -1,9 +1,12 @@
 -- Lines that open a session, and lines that answer calls.
-use Rattle.std.proofs.Common.{◌≡◌, ℕ, Bool, true, false, cond, ◌||◌, List, [], ◌∷◌, ◌++◌, length, drop, filter_map, Option, Some, None, is_some, unwrap_or, refl, sym, ◌∙◌, ap, subst, append-nil, arith}
+use Rattle.std.proofs.Common.{◌≡◌, ℕ, Bool, true, false, cond, ◌||◌, List, [], ◌∷◌, ◌++◌, length, drop, filter_map, Option, Some, None, is_some, unwrap_or, refl, sym, ◌∙◌, ap, subst, append-nil, ◌*◌, ◌≤◌, arith}
 use Rattle.std.proofs.Math.Seq.{drop-append_seam}
 use Rattle.std.proofs.lemmas.List.{map-append}
 use Rattle.std.proofs.lemmas.List.Elements.{filter_map-append}
 use Rattle.std.proofs.lemmas.List.Folds.{list_any-append}
+use Rattle.std.proofs.Math.Nat.{zero-div}
+use Rattle.rl_types.specs.Alphabet.{characters, has_rest}
+use Rattle.rl_types.proofs.Characters.{length-characters}
 use Rattle.rl_run.specs.declared.calls.Answer.{Answer}
 use Rattle.rl_run.specs.declared.calls.Call.{Call}
 use Rattle.rl_run.specs.declared.calls.Outcome.TheVariants.{Wants}
@@ -11,7 +14,7 @@ use Rattle.rl_run.specs.declared.sessions.Settings.{Settings}
 use Rattle.rl_run.specs.Chain.{run_on}
 use Rattle.rl_run.specs.Hosted.{hosted}
 use Rattle.rl_run.specs.Machine.{Machine, fresh}
-use Rattle.rl_run.specs.Run.{at_letter, turns}
+use Rattle.rl_run.specs.Run.{at_letter, turns, input_at}
 use Rattle.rl_arrays.specs.declared.arrays.Arrays.{Arrays}
 use Rattle.rl_arrays.specs.TableMachine.{machine}
 use Rattle.rl_replay.specs.declared.script.Line.{Line}
@@ -32,11 +35,30 @@ use Rattle.rl_playback.proofs.Moves.{run_pair}
 use Rattle.rl_playback.proofs.Steps.{aside_none, gained_own, stepped}
 use Rattle.rl_playback.proofs.Texts.{fed_more, ended_more, first_behind, lines_by, session_text}
 
+-- no bytes have no characters
+no_characters : (width : ℕ) → characters width [] ≡ []
+no_characters width = none (characters width []) (length-characters width [] ∙ zero-div width)
+  where
+    none : (xs : List ℕ) → length xs ≡ 0 → xs ≡ []
+    none [] e = refl
+    none (x ∷ xs) e = absurd (omega arith)
+
 -- a run from a start that sees nothing yet wants more
 fresh_wants : (m : Machine ℕ) (settings : Settings) (host : List Call → Answer) (state : ℕ) →
-    hosted host [] (run_on false m settings (record { base = 0; bytes = []; is_closed = false }) (fresh state)) ≡ run_pair [] (Some Wants) (fresh state)
+    hosted host [] (run_on false m settings (input_at m.width 0 [] false) (fresh state)) ≡ run_pair [] (Some Wants) (fresh state)
 unfolding run_on turns at_letter
-fresh_wants m settings host state = refl
+fresh_wants m settings host state =
+    ap (λ all. hosted host [] (run_on false m settings (record { base = 0; characters = all; is_closed = false; has_rest = has_rest m.width [] }) (fresh state))) (no_characters m.width)
+
+-- a session that starts has no bytes behind it
+starts_window : (width : ℕ) (input name : List ℕ) (state : ℕ) → input ≡ [] → IsWindowOf width input (started name state)
+starts_window width input name state e = record {
+  within = subst (λ n. n ≤ length input) (sym (times_none width)) (omega arith);
+  same = subst (λ n. drop n input ≡ []) (sym (times_none width)) e;
+}
+  where
+    times_none : (w : ℕ) → w * 0 ≡ 0
+    times_none w = omega arith
 
 -- a text less itself
 less_itself : (text : List ℕ) → drop (length text) text ≡ []
@@ -62,22 +84,22 @@ module _ (past : List Line) (line : Line) (opens : opening_of line.event ≡ Non
   ended_kept : is_ended (past ++ line ∷ []) ≡ is_ended past
   ended_kept = list_any-append (λ l. is_end l.event) past (line ∷ []) ∙ ap (λ b. is_ended past || (b || false)) ends ∙ or_same (is_ended past)
 
-  input_kept : input_of (past ++ line ∷ []) ≡ input_of past
-  input_kept =
-      let P : List ℕ → Type 0 = λ bytes. input_of (past ++ line ∷ []) ≡ record { base = 0; bytes = bytes; is_closed = is_ended (past ++ line ∷ []) } in
-      let Q : Bool → Type 0 = λ b. input_of (past ++ line ∷ []) ≡ record { base = 0; bytes = fed past; is_closed = b } in
+  input_kept : (width : ℕ) → input_of width (past ++ line ∷ []) ≡ input_of width past
+  input_kept width =
+      let P : List ℕ → Type 0 = λ bytes. input_of width (past ++ line ∷ []) ≡ input_at width 0 bytes (is_ended (past ++ line ∷ [])) in
+      let Q : Bool → Type 0 = λ b. input_of width (past ++ line ∷ []) ≡ input_at width 0 (fed past) b in
       subst Q ended_kept (subst P fed_kept refl)
 
   module _ (names : Names) (m : Machine ℕ) (s : List ℕ) (own : List Line) where
     run_kept : host_run names m default_settings own (past ++ line ∷ []) ≡ host_run names m default_settings own past
     run_kept =
-        ap (λ o. hosted (host m own) [] (run_on false m default_settings (input_of (past ++ line ∷ [])) (fresh (m.entry (entry_or_start names (unwrap_or o None)))))) opened_kept
-        ∙ ap (λ input. hosted (host m own) [] (run_on false m default_settings input (fresh (m.entry (entry_of names past))))) input_kept
+        ap (λ o. hosted (host m own) [] (run_on false m default_settings (input_of m.width (past ++ line ∷ [])) (fresh (m.entry (entry_or_start names (unwrap_or o None)))))) opened_kept
+        ∙ ap (λ input. hosted (host m own) [] (run_on false m default_settings input (fresh (m.entry (entry_of names past))))) (input_kept m.width)
 
     lines_kept : session_lines names m default_settings s own (past ++ line ∷ []) ≡ session_lines names m default_settings s own past
     lines_kept =
-        ap (λ o. cond (is_some o) (run_lines m default_settings s (host m own) (entry_or_start names (unwrap_or o None)) (input_of (past ++ line ∷ []))) []) opened_kept
-        ∙ ap (λ input. cond (is_some (opened_at past)) (run_lines m default_settings s (host m own) (entry_of names past) input) []) input_kept
+        ap (λ o. cond (is_some o) (run_lines m default_settings s (host m own) (entry_or_start names (unwrap_or o None)) (input_of m.width (past ++ line ∷ []))) []) opened_kept
+        ∙ ap (λ input. cond (is_some (opened_at past)) (run_lines m default_settings s (host m own) (entry_of names past) input) []) (input_kept m.width)
 
     stands_kept : (books : Books) (o : Option SessionValue) → StandsAt names m s own past books o → StandsAt names m s own (past ++ line ∷ []) books o
     stands_kept books None h = record { opened = opened_kept ∙ h.opened; fed = fed_kept ∙ h.fed; ended = ended_kept ∙ h.ended; counts = h.counts }
@@ -86,7 +108,7 @@ module _ (past : List Line) (line : Line) (opens : opening_of line.event ≡ Non
       ended = ended_kept ∙ h.ended;
       come = λ e.
           let k = h.come e in
-          let W : List ℕ → Type 0 = λ bytes. IsWindowOf bytes x in
+          let W : List ℕ → Type 0 = λ bytes. IsWindowOf m.width bytes x in
           record {
             calls = k.calls;
             run = run_kept ∙ k.run;
@@ -149,15 +171,15 @@ module _ (script past : List Line) (a : Arrays) (line : Line) (log : Log) (sessi
     ended_now : is_ended now ≡ false
     ended_now = ended_more at line unopened.ended ∙ ends
 
-    input_now : input_of now ≡ record { base = 0; bytes = []; is_closed = false }
+    input_now : input_of m.width now ≡ input_at m.width 0 [] false
     input_now =
-        let P : List ℕ → Type 0 = λ bytes. input_of now ≡ record { base = 0; bytes = bytes; is_closed = is_ended now } in
-        let Q : Bool → Type 0 = λ b. input_of now ≡ record { base = 0; bytes = []; is_closed = b } in
+        let P : List ℕ → Type 0 = λ bytes. input_of m.width now ≡ input_at m.width 0 bytes (is_ended now) in
+        let Q : Bool → Type 0 = λ b. input_of m.width now ≡ input_at m.width 0 [] b in
         subst Q ended_now (subst P fed_now refl)
 
     run_now : host_run (names_in a) m default_settings own now ≡ run_pair [] (Some Wants) x.session
     run_now =
-        ap (λ v. hosted (host m own) [] (run_on false m default_settings (input_of now) (fresh (m.entry (entry_or_start (names_in a) (unwrap_or v None)))))) opened_now
+        ap (λ v. hosted (host m own) [] (run_on false m default_settings (input_of m.width now) (fresh (m.entry (entry_or_start (names_in a) (unwrap_or v None)))))) opened_now
         ∙ ap (λ input. hosted (host m own) [] (run_on false m default_settings input x.session)) input_now
         ∙ fresh_wants m default_settings (host m own) (m.entry (entry_or_start (names_in a) entry))
 
@@ -172,13 +194,13 @@ module _ (script past : List Line) (a : Arrays) (line : Line) (log : Log) (sessi
         calls = [];
         run = run_now;
         counts = unopened.counts;
-        window = λ e. record { within = omega arith; same = fed_now };
+        window = λ e. starts_window m.width (fed now) s (m.entry (entry_or_start (names_in a) entry)) fed_now;
         stopped = λ outcome e. none_some outcome e;
       };
     }
 
     no_lines : session_lines (names_in a) m default_settings s own at ≡ []
-    no_lines = ap (λ (v : Option (Option (List ℕ))). cond (is_some v) (run_lines m default_settings s (host m own) (entry_of (names_in a) at) (input_of at)) []) unopened.opened
+    no_lines = ap (λ (v : Option (Option (List ℕ))). cond (is_some v) (run_lines m default_settings s (host m own) (entry_of (names_in a) at) (input_of m.width at)) []) unopened.opened
 
     no_lines_now : session_lines (names_in a) m default_settings s own now ≡ []
     no_lines_now =

@@ -1,9 +1,12 @@
 -- What one more line of a session adds to its text.
-use Rattle.std.proofs.Common.{◌≡◌, ℕ, Bool, true, false, cond, ◌||◌, List, [], ◌∷◌, ◌++◌, length, drop, filter_map, Option, Some, None, is_some, refl, sym, ◌∙◌, ap, subst, append_assoc, append-nil}
+use Rattle.std.proofs.Common.{◌≡◌, ℕ, Bool, true, false, cond, ◌||◌, List, [], ◌∷◌, ◌++◌, length, drop, filter_map, Option, Some, None, is_some, refl, sym, ◌∙◌, ap, subst, append_assoc, append-nil, ◌+◌, ◌^◌, ◌<◌, ◌≤◌, arith}
 use Rattle.std.proofs.Math.Seq.{drop-append_seam, take-append_seam}
 use Rattle.std.proofs.lemmas.List.Elements.{filter_map-append}
 use Rattle.std.proofs.lemmas.Grind.{flat_map-append}
 use Rattle.std.proofs.lemmas.List.Folds.{list_any-append}
+use Rattle.std.proofs.Math.Nat.{div-le_self}
+use Rattle.rl_types.specs.Alphabet.{characters}
+use Rattle.rl_types.proofs.Characters.{length-characters}
 use Rattle.rl_run.specs.declared.calls.Answer.{Answer}
 use Rattle.rl_run.specs.declared.calls.Call.{Call}
 use Rattle.rl_run.specs.declared.calls.Outcome.{Outcome}
@@ -11,7 +14,7 @@ use Rattle.rl_run.specs.declared.calls.Outcome.TheVariants.{Wants, Broke, Ended,
 use Rattle.rl_run.specs.declared.calls.Stop.{Stop}
 use Rattle.rl_run.specs.Chain.{Extends}
 use Rattle.rl_run.specs.Machine.{Machine, Session}
-use Rattle.rl_run.specs.Run.{Rest, rest}
+use Rattle.rl_run.specs.Run.{Rest, rest, input_at}
 use Rattle.rl_run.specs.Verdict.{verdict_of}
 use Rattle.rl_run.proofs.Cuts.{front_extends}
 use Rattle.rl_replay.specs.declared.script.Line.{Line}
@@ -53,16 +56,25 @@ module _ (past : List Line) (line : Line) where
           ∙ first_append (filter_map (λ l. opening_of l.event) past) (filter_map (λ l. opening_of l.event) (line ∷ [])) entry f ∙ sym f
 
   -- the input of a session that was not ended
-  pub input_more : is_ended past ≡ false → input_of (past ++ line ∷ []) ≡ record { base = 0; bytes = fed past ++ feeding_of line.event; is_closed = is_end line.event }
-  input_more e =
-      let P : List ℕ → Type 0 = λ bytes. input_of (past ++ line ∷ []) ≡ record { base = 0; bytes = bytes; is_closed = is_ended (past ++ line ∷ []) } in
-      let Q : Bool → Type 0 = λ b. input_of (past ++ line ∷ []) ≡ record { base = 0; bytes = fed past ++ feeding_of line.event; is_closed = b } in
+  pub input_more : (width : ℕ) → is_ended past ≡ false → input_of width (past ++ line ∷ []) ≡ input_at width 0 (fed past ++ feeding_of line.event) (is_end line.event)
+  input_more width e =
+      let P : List ℕ → Type 0 = λ bytes. input_of width (past ++ line ∷ []) ≡ input_at width 0 bytes (is_ended (past ++ line ∷ [])) in
+      let Q : Bool → Type 0 = λ b. input_of width (past ++ line ∷ []) ≡ input_at width 0 (fed past ++ feeding_of line.event) b in
       subst Q (ended_more e) (subst P fed_more refl)
 
-pub extends_more : (xs ys : List ℕ) (a b : Bool) → Extends (record { base = 0; bytes = xs; is_closed = a }) (record { base = 0; bytes = xs ++ ys; is_closed = b })
-extends_more xs ys a b =
-    let P : List ℕ → Type 0 = λ front. Extends (record { base = 0; bytes = front; is_closed = a }) (record { base = 0; bytes = xs ++ ys; is_closed = b }) in
-    subst P (take-append_seam xs ys) (front_extends (xs ++ ys) (length xs) a b)
+-- a piece may end within a character
+pub extends_more : (width : ℕ) (xs ys : List ℕ) (a b : Bool) → Extends (input_at width 0 xs a) (input_at width 0 (xs ++ ys) b)
+extends_more width xs ys a b =
+    let P : List ℕ → Type 0 = λ front. Extends (input_at width 0 front a) (input_at width 0 (xs ++ ys) b) in
+    subst P (take-append_seam xs ys) (front_extends width (xs ++ ys) (length xs) a b)
+
+-- there are no more characters than bytes
+pub few_characters : (width : ℕ) (bytes : List ℕ) → length bytes < 2 ^ 63 → 0 + length (characters width bytes) < 2 ^ 63
+few_characters width bytes limit =
+    fewer (length (characters width bytes)) (length bytes) (subst (λ n. n ≤ length bytes) (sym (length-characters width bytes)) (div-le_self (length bytes) width)) limit
+  where
+    fewer : (n k : ℕ) → n ≤ k → k < 2 ^ 63 → 0 + n < 2 ^ 63
+    fewer n k h l = omega arith
 
 -- ---- texts
 
@@ -113,4 +125,4 @@ stop_same s (Stopped cause) t = refl
 
 pub session_text : (names : Names) (m : Machine ℕ) (s : List ℕ) (own past : List Line) → is_opened past ≡ true →
     session_lines names m default_settings s own past ≡ lines_by m s (host m own) (host_run names m default_settings own past) (is_ended past)
-session_text names m s own past e = ap (λ b. cond b (run_lines m default_settings s (host m own) (entry_of names past) (input_of past)) []) e
+session_text names m s own past e = ap (λ b. cond b (run_lines m default_settings s (host m own) (entry_of names past) (input_of m.width past)) []) e

@@ -1,5 +1,5 @@
 -- Calls on a session by a closure that logs, as calls by the log.
-use Rattle.std.proofs.Common.{◌≡◌, ℕ, zero, suc, ◌≤◌, List, ◌∷◌, length, drop, Option, Some, None, refl, sym, ◌∙◌, ap, arith}
+use Rattle.std.proofs.Common.{◌≡◌, ℕ, zero, suc, ◌*◌, ◌≤◌, List, ◌∷◌, length, drop, Option, Some, None, refl, sym, ◌∙◌, ap, arith}
 use Rattle.rl_run.specs.declared.calls.Answer.{Answer}
 use Rattle.rl_run.specs.declared.calls.Call.{Call}
 use Rattle.rl_run.specs.declared.calls.Outcome.{Outcome}
@@ -8,6 +8,7 @@ use Rattle.rl_run.specs.Chain.{Played}
 use Rattle.rl_run.specs.Machine.{Machine}
 use Rattle.rl_run.specs.Play.{Play, done, ask, Plays}
 use Rattle.rl_run.proofs.Cuts.{plays}
+use Rattle.rl_arrays.specs.TableMachine.{machine}
 use Rattle.rl_sessions.specs.SessionsValue.{SessionValue, SessionsValue, IsWindowOf}
 use Rattle.rl_sessions.specs.Runs.{Rests, TakesPiece, TakesEnd}
 use Rattle.rl_playback.specs.declared.log.Log.{Log}
@@ -29,8 +30,8 @@ unfolding padded
 length_padded zero bytes = omega arith
 length_padded (suc n) bytes = let h = length_padded n bytes in omega arith
 
-some_input : (x : SessionValue) → IsWindowOf (padded x.base x.window) x
-some_input x = record { within = length_padded x.base x.window; same = drop_padded x.base x.window }
+some_input : (width : ℕ) (x : SessionValue) → IsWindowOf width (padded (width * x.base) x.window) x
+some_input width x = record { within = length_padded (width * x.base) x.window; same = drop_padded (width * x.base) x.window }
 
 module _ {H : Type 0} (step : H → Call → Answer → H → Type 0) where
   -- what each call keeps
@@ -46,14 +47,14 @@ module _ {H : Type 0} (step : H → Call → Answer → H → Type 0) where
     piece_name h last s old new piece o t = go t.earlier.over refl
       where
         go : (over : Option Outcome) → t.earlier.over ≡ over → name_of last ≡ name_of h
-        go None e = played_name h last _ _ ((t.takes.going e).played (padded t.earlier.base t.earlier.window) (some_input t.earlier))
+        go None e = played_name h last _ _ ((t.takes.going e).played (padded ((machine old.tables).width * t.earlier.base) t.earlier.window) (some_input (machine old.tables).width t.earlier))
         go (Some x) e = ap name_of (t.takes.stopped x e).host_same
 
     pub end_name : (h last : H) (s : List ℕ) (old new : SessionsValue) (o : Outcome) → TakesEnd step h last s old new o → name_of last ≡ name_of h
     end_name h last s old new o t = go t.earlier.over refl
       where
         go : (over : Option Outcome) → t.earlier.over ≡ over → name_of last ≡ name_of h
-        go None e = played_name h last _ _ ((t.ends.going e).played (padded t.earlier.base t.earlier.window) (some_input t.earlier))
+        go None e = played_name h last _ _ ((t.ends.going e).played (padded ((machine old.tables).width * t.earlier.base) t.earlier.window) (some_input (machine old.tables).width t.earlier))
         go (Some x) e = ap name_of (t.ends.stopped x e).host_same
 
   module _ (log_of : H → Log) (tells : (h : H) (c : Call) (x : Answer) (k : H) → step h c x k → LogsCall (log_of h) c x (log_of k)) where

@@ -1,5 +1,5 @@
 -- What a line of a script does to the sessions and to the log.
-use Rattle.std.specs.Prelude.{◌≡◌, ◌≢◌, ℕ, ◌+◌, ◌<◌, ◌^◌, Bool, true, false, if◌then◌else◌, List, [], ◌∷◌, ◌++◌, length, flat_map, Option, Some, None, unwrap_or, ◌⊎◌}
+use Rattle.std.specs.Prelude.{◌≡◌, ◌≢◌, ℕ, ◌+◌, ◌*◌, ◌<◌, ◌^◌, Bool, true, false, if◌then◌else◌, List, [], ◌∷◌, ◌++◌, length, flat_map, Option, Some, None, unwrap_or, ◌⊎◌}
 use Rattle.std.specs.Option.{option_map}
 use Rattle.rl_run.specs.declared.calls.Outcome.{Outcome}
 use Rattle.rl_run.specs.declared.calls.Verdict.{Verdict}
@@ -29,7 +29,8 @@ HasNotStopped s sessions = (x : SessionValue) → find s sessions.all ≡ Some x
 -- a session that has not stopped has room for a piece more
 abbrev pub HasRoom : List ℕ → List ℕ → SessionsValue → Type 0
 HasRoom s piece sessions =
-    (x : SessionValue) → find s sessions.all ≡ Some x → verdict_in sessions.tables x ≢ Error → x.base + length x.window + length piece < 2 ^ 63
+    (x : SessionValue) → find s sessions.all ≡ Some x → verdict_in sessions.tables x ≢ Error →
+    (machine sessions.tables).width * x.base + length x.window + length piece < 2 ^ 63
 
 -- the log has a text more
 pub record Adds (old new : Log) (text : List ℕ) : Type 0 where

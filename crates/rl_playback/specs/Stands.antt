@@ -41,7 +41,7 @@ module _ (names : Names) (m : Machine ℕ) (s : List ℕ) (own past : List Line)
     pub calls : List Call
     pub run : host_run names m default_settings own past ≡ (calls, rest (Some (outcome_of x.over)) x.session)
     pub counts : Counts m s own calls books
-    pub window : x.over ≡ None → IsWindowOf (fed past) x
+    pub window : x.over ≡ None → IsWindowOf m.width (fed past) x
     pub stopped : (outcome : Outcome) → x.over ≡ Some outcome → (cause : Stop) × (outcome ≡ Stopped cause)
 
   -- a session that no line has opened

@@ -1,5 +1,6 @@
 // Calls on one session that log what it calls.
-ghost use Rattle.std.specs.Prelude.{◌≡◌, ◌<◌, ◌+◌, ◌^◌, false, length, IfOk, Some};
+ghost use Rattle.std.specs.Prelude.{◌≡◌, ◌<◌, ◌+◌, ◌*◌, ◌^◌, false, length, IfOk, Some};
+ghost use Rattle.rl_arrays.specs.TableMachine.{machine};
 ghost use Rattle.rl_sessions.specs.SessionsValue.{SessionValue, find};
 ghost use Rattle.rl_sessions.specs.Runs.{TakesPiece, TakesEnd};
 ghost use Rattle.rl_playback.specs.Deeds.{HasLive};
@@ -18,7 +19,8 @@ pub fn take_piece(
     piece: &[u8],
 ) -> Result<Outcome, Memory>
     requires live { HasLive name.now sessions.old }
-    requires room { (x : SessionValue) → find name.now sessions.old.all ≡ Some x → x.base + length x.window + length piece.now < 2 ^ 63 }
+    requires room { (x : SessionValue) → find name.now sessions.old.all ≡ Some x →
+        (machine sessions.old.tables).width * x.base + length x.window + length piece.now < 2 ^ 63 }
     ensures room { IfOk result (λ _. log.new.is_full ≡ false) }
     ensures taken { IfOk result (λ outcome. TakesPiece LogsCall log.old log.new name.now sessions.old sessions.new piece.now outcome) }
 {
