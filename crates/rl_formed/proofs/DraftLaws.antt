@@ -32,8 +32,7 @@ use Rattle.rl_formed.proofs.NameLaws.{actions_differ, definitions_differ, entrie
 use Rattle.rl_formed.proofs.EmbeddedLaws.{HoldsOfMade, all_hold}
 use Rattle.rl_formed.proofs.WrittenLaws.{HoldsOfName, HoldsOfStep, machines_named, all_named}
 use Rattle.rl_formed.proofs.PlaceNameLaws.{anonymous_named}
-use Rattle.rl_formed.proofs.PlainLaws.{HoldsOfEvents}
-use Rattle.rl_formed.proofs.SetLaws.{IsFew, IsOfBytes, all_few}
+use Rattle.rl_formed.proofs.SetLaws.{IsFew, all_few}
 use Rattle.rl_formed.proofs.FileLaws as files
 use Rattle.rl_formed.proofs.CountLaws.{few_actions, few_definitions}
 
@@ -172,32 +171,11 @@ have_named_machines steps w = all IsNamed (machines_of steps) (machines_named Is
 
 -- ---- sets
 
-bytes_as_written : (e : Event) → laws.IsUsedAsWritten e → IsOfBytes e
-bytes_as_written (event.Leaf o) h = h
-bytes_as_written (event.Code w) h = tt
-bytes_as_written (event.Name w) h = tt
-bytes_as_written (event.Action w) h = tt
-bytes_as_written (event.Priority w) h = tt
-bytes_as_written (event.When place) h = tt
-bytes_as_written (event.Scan place) h = tt
-
-events_as_written : (s : Statement) → laws.IsWritten s → HoldsOfEvents IsOfBytes s
-events_as_written (statement.Definition d) h = each_more laws.IsUsedAsWritten IsOfBytes (union_events d.value) bytes_as_written (each laws.IsUsedAsWritten (union_events d.value) h.1)
-events_as_written (statement.Action a) h = tt
-events_as_written (statement.Machine m) h = tt
-events_as_written (statement.Include m) h = tt
-events_as_written (statement.Alphtype m) h = tt
-events_as_written (statement.Access m) h = tt
-events_as_written (statement.Variable m) h = tt
-events_as_written (statement.Write m) h = tt
-
-pub have_small_sets : laws.OfWritten laws.HasSmallSets
-have_small_sets steps machine draft w h =
+pub have_small_sets : laws.OfDrafts laws.HasSmallSets
+have_small_sets steps machine draft h =
     let r = read steps machine draft h in
     let d = draft_with steps machine (actions_of machine steps) r.definitions in
-    let written = each (λ (s : Step). laws.IsWritten s.statement) steps w in
-    let bytes = each_more (λ (s : Step). laws.IsWritten s.statement) (λ (s : Step). HoldsOfEvents IsOfBytes s.statement) steps (λ s k. events_as_written s.statement k) written in
-    let few = all_few d.alphabet (scope_of r.names machine steps) machine steps r.definitions refl bytes r.defined in
+    let few = all_few d.alphabet (scope_of r.names machine steps) machine steps r.definitions refl r.defined in
     let P = λ (m : Made). All (IsFew d.alphabet) (flat_map sets_in (trees_of m.root)) in
     subst laws.HasSmallSets r.is (all P (entries [] (meanings d)) (each_more (λ (m : Made). Each (IsFew d.alphabet) (flat_map sets_in (trees_of m.root))) P (entries [] (meanings d))
     (λ m k. all (IsFew d.alphabet) (flat_map sets_in (trees_of m.root)) k) few))

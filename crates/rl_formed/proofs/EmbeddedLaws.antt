@@ -134,7 +134,7 @@ any_leaf leaf.Null = tt
 any_leaf leaf.Nothing = tt
 any_leaf (leaf.Row items) = any_items items
 
-abbrev AnyEvent : Event → Type 0
+abbrev pub AnyEvent : Event → Type 0
 AnyEvent e = Unit {0}
 
 any_statement : (s : Statement) → HoldsOfEvents AnyEvent s
@@ -147,7 +147,7 @@ any_statement (statement.Access m) = tt
 any_statement (statement.Variable m) = tt
 any_statement (statement.Write m) = tt
 
-any_steps : (steps : List Step) → Each (λ (s : Step). HoldsOfEvents AnyEvent s.statement) steps
+pub any_steps : (steps : List Step) → Each (λ (s : Step). HoldsOfEvents AnyEvent s.statement) steps
 any_steps [] = tt
 any_steps (s ∷ ss) = (any_statement s.statement, any_steps ss)
 

@@ -1,22 +1,20 @@
--- The leaves that are read have their form, where the bytes of their texts are bytes.
+-- The leaves that are read have their form.
 use Rattle.std.proofs.Common.{◌≡◌, ℕ, zero, suc, ◌+◌, Bool, true, false, ℤ, ◌≤ℤ◌, List, [], ◌∷◌, map, take, drop, length, Option, None, Some, Result, Ok, Err, refl, sym, ap, subst, arith}
 use Rattle.std.specs.Prelude.{if◌then◌else◌, not, All, int_lt, MatchOption}
 use Rattle.std.specs.List.{list_any}
 use Rattle.std.proofs.lemmas.Bool.{false≢true}
 use Rattle.std.proofs.lemmas.Int.{ints}
-use Rattle.std.proofs.lemmas.List.Elements.{All-take, All-drop}
 use Rattle.rl_types.specs.declared.alphabet.Alphabet.{Alphabet}
 use Rattle.rl_types.specs.declared.numbers.Place.{Place}
 use Rattle.rl_types.specs.Alphabet.{has_key}
-use Rattle.rl_grammar.specs.Literals.{escaped}
 use Rattle.rl_draft.specs.declared.expression.Leaf.{Leaf}
 use Rattle.rl_draft.specs.declared.expression.Leaf.TheVariants as leaf
 use Rattle.rl_leaves.specs.declared.text.Character.{Character}
-use Rattle.rl_leaves.specs.Texts.{character, slash_behind, before, characters, within, characters_within}
+use Rattle.rl_leaves.specs.Texts.{characters, characters_within}
 use Rattle.rl_leaves.specs.Forms.{AreRanges, IsItem, IsLeaf}
 use Rattle.rl_leaves.specs.Literals.{character_item, characters_leaf, literal_leaf}
 use Rattle.rl_leaves.proofs.FormLaws.{character_form, tested_form}
-use Rattle.rl_leaves.proofs.SetForms as sets
+use Rattle.rl_leaves.proofs.SetForms.{set_form as ranges_form}
 use Rattle.rl_types.specs.declared.numbers.Key.{Key}
 use Rattle.rl_types.specs.KeyRange.{Range}
 use Rattle.rl_leaves.specs.declared.character_set.CharacterSet.{CharacterSet}
@@ -24,13 +22,12 @@ use Rattle.rl_leaves.specs.declared.regular_item.Named.{Named}
 use Rattle.rl_leaves.specs.declared.regular_item.Named.TheVariants as named
 use Rattle.rl_leaves.specs.declared.regular_item.RegularItem.{RegularItem}
 use Rattle.rl_leaves.specs.declared.fault.KeyFault.{KeyFault}
-use Rattle.rl_leaves.specs.Cuts.{cut, cut_within}
-use Rattle.rl_leaves.specs.CharacterSets.{set_of, set_is_reversed, is_empty_word, every_character, has}
+use Rattle.rl_leaves.specs.CharacterSets.{set_of, set_is_reversed, is_empty_word}
 use Rattle.rl_leaves.specs.Ranges.{only, set_ranges}
 use Rattle.rl_leaves.specs.Sets.{character_set_leaf, set_leaf}
 use Rattle.rl_leaves.specs.Keys.{key_leaf, range_leaf}
-use Rattle.rl_leaves.specs.RegularExpressions.{before_close, behind_named, item_at, behind_item, regular_items, named_ranges, item_of, item_is_reversed, items_leaf, regular_leaf}
-use Rattle.rl_leaves.specs.Texts.{is_plain, begins_with, ignores_case}
+use Rattle.rl_leaves.specs.RegularExpressions.{regular_items, named_ranges, item_of, item_is_reversed, items_leaf, regular_leaf}
+use Rattle.rl_leaves.specs.Texts.{ignores_case}
 use Rattle.rl_grammar.specs.Literals.{inside}
 use Rattle.rl_grammar.specs.declared.syntax.Operand.{Operand, out-Operand}
 use Rattle.rl_grammar.specs.declared.syntax.Operand.TheOpen as operand
@@ -38,61 +35,22 @@ use Rattle.rl_names.specs.Answers.{and_then}
 use Rattle.rl_names.specs.Values.{Layer}
 use Rattle.rl_names.specs.Leaves.{number_read, key_read, told_at, told_between, layer_leaf, leaf_read}
 use Rattle.rl_names.specs.Places.{number_place, key_place}
-use Rattle.rl_formed.specs.Laws.{IsByte, LayerBytes, HasBytes}
 use Rattle.rl_formed.proofs.ResultLaws.{ok_then, same_ok, err_or_ok}
-use Rattle.rl_form.proofs.Lists.{Each, each, all}
-
--- ---- characters
-
-if_below : (c : Bool) (x y : ℕ) → IsByte x → IsByte y → IsByte (if c then x else y)
-if_below true x y h g = h
-if_below false x y h g = g
-
-escaped_below : (b : ℕ) → IsByte b → IsByte (escaped b)
-escaped_below b h =
-    if_below _ 0 _ (omega arith) (if_below _ 7 _ (omega arith) (if_below _ 8 _ (omega arith) (if_below _ 9 _ (omega arith)
-    (if_below _ 10 _ (omega arith) (if_below _ 11 _ (omega arith) (if_below _ 12 _ (omega arith) (if_below _ 13 b (omega arith) h)))))))
-
-abbrev pub HasByte : Character → Type 0
-HasByte c = IsByte c.byte
-
-abbrev MayHaveByte : Option Character → Type 0
-MayHaveByte None = Unit {0}
-MayHaveByte (Some c) = HasByte c
-
-unless_byte : (t : Bool) (c : Character) → HasByte c → MayHaveByte (if t then None else Some c)
-unless_byte true c h = tt
-unless_byte false c h = h
-
-character_byte : (slash : Bool) (b : ℕ) → IsByte b → MayHaveByte (character slash b)
-character_byte true b h = unless_byte _ _ (escaped_below b h)
-character_byte false b h = unless_byte _ _ h
-
-before_bytes : (o : Option Character) (cs : List Character) → MayHaveByte o → Each HasByte cs → Each HasByte (before o cs)
-before_bytes None cs h g = g
-before_bytes (Some c) cs h g = (h, g)
-
-pub characters_bytes : (slash : Bool) (bs : List ℕ) → Each IsByte bs → Each HasByte (characters slash bs)
-unfolding characters
-characters_bytes slash [] h = tt
-characters_bytes slash (b ∷ bs) h = before_bytes (character slash b) (characters (slash_behind slash b) bs) (character_byte slash b h.0) (characters_bytes (slash_behind slash b) bs h.1)
-
-within_bytes : (text : List ℕ) → All IsByte text → Each HasByte (characters_within text)
-within_bytes text h = characters_bytes false (within text) (each IsByte (within text) (All-take IsByte _ (drop 1 text) (All-drop IsByte 1 text h)))
+use Rattle.rl_form.proofs.Lists.{Each, all}
 
 -- ---- literals
 
-items_form : (alphabet : Alphabet) (folds : Bool) (cs : List Character) → Each HasByte cs → Each (IsItem alphabet) (map (character_item alphabet folds) cs)
-items_form alphabet folds [] h = tt
-items_form alphabet folds (c ∷ cs) h = (character_form alphabet folds c.byte, items_form alphabet folds cs h.1)
+items_form : (alphabet : Alphabet) (folds : Bool) (cs : List Character) → Each (IsItem alphabet) (map (character_item alphabet folds) cs)
+items_form alphabet folds [] = tt
+items_form alphabet folds (c ∷ cs) = (character_form alphabet folds c.byte, items_form alphabet folds cs)
 
-characters_form : (alphabet : Alphabet) (folds : Bool) (cs : List Character) → Each HasByte cs → IsLeaf alphabet (characters_leaf alphabet folds cs)
-characters_form alphabet folds [] h = tt
-characters_form alphabet folds (c ∷ []) h = character_form alphabet folds c.byte
-characters_form alphabet folds (c ∷ d ∷ cs) h = all (IsItem alphabet) (map (character_item alphabet folds) (c ∷ d ∷ cs)) (items_form alphabet folds (c ∷ d ∷ cs) h)
+characters_form : (alphabet : Alphabet) (folds : Bool) (cs : List Character) → IsLeaf alphabet (characters_leaf alphabet folds cs)
+characters_form alphabet folds [] = tt
+characters_form alphabet folds (c ∷ []) = character_form alphabet folds c.byte
+characters_form alphabet folds (c ∷ d ∷ cs) = all (IsItem alphabet) (map (character_item alphabet folds) (c ∷ d ∷ cs)) (items_form alphabet folds (c ∷ d ∷ cs))
 
-pub literal_form : (alphabet : Alphabet) (text : List ℕ) → All IsByte text → IsLeaf alphabet (literal_leaf alphabet text)
-literal_form alphabet text h = characters_form alphabet _ (characters_within text) (within_bytes text h)
+pub literal_form : (alphabet : Alphabet) (text : List ℕ) → IsLeaf alphabet (literal_leaf alphabet text)
+literal_form alphabet text = characters_form alphabet _ (characters_within text)
 
 -- ---- answers of tests
 
@@ -114,7 +72,7 @@ only_first false r f l e = absurd (none_of f l e)
 
 set_case : (alphabet : Alphabet) (b : Bool) (s : CharacterSet) → IsLeaf alphabet (if b then leaf.Null else leaf.Set (set_ranges alphabet false s))
 set_case alphabet true s = tt
-set_case alphabet false s = sets.set_form alphabet false s
+set_case alphabet false s = ranges_form alphabet false s
 
 pub set_form : (alphabet : Alphabet) (text : List ℕ) (l : Leaf) → set_leaf alphabet text ≡ Ok l → IsLeaf alphabet l
 set_form alphabet text l e =
@@ -148,64 +106,31 @@ range_form alphabet lo hi l e =
 
 -- ---- regular expressions
 
-abbrev NamedByte : Named → Type 0
-NamedByte (named.Character b) = IsByte b
-NamedByte (named.Set s) = Unit {0}
-
-abbrev ItemByte : RegularItem → Type 0
-ItemByte x = NamedByte x.names
-
-named_case : (a b : Bool) (s t : CharacterSet) (byte : ℕ) → IsByte byte → NamedByte (if a then named.Set s else (if b then named.Set t else named.Character byte))
-named_case true b s t byte h = tt
-named_case false true s t byte h = tt
-named_case false false s t byte h = h
-
-dropped : (n : ℕ) (cs : List Character) → Each HasByte cs → Each HasByte (drop n cs)
-dropped n cs h = each HasByte (drop n cs) (All-drop HasByte n cs (all HasByte cs h))
-
-drop_case : (b : Bool) (n : ℕ) (cs : List Character) → Each HasByte cs → Each HasByte (if b then drop n cs else cs)
-drop_case true n cs h = dropped n cs h
-drop_case false n cs h = h
-
-behind_bytes : (c : Character) (cs : List Character) → Each HasByte cs → Each HasByte (behind_item c cs)
-behind_bytes c cs h = drop_case (begins_with 42 (behind_named c cs)) 1 (behind_named c cs) (drop_case (is_plain 91 c) (before_close cs + 1) cs h)
-
-within_items : (n : ℕ) (cs : List Character) → Each HasByte cs → Each ItemByte (cut_within item_at behind_item n cs)
-unfolding cut_within
-within_items zero cs h = tt
-within_items (suc n) [] h = tt
-within_items (suc n) (c ∷ cs) h =
-    (named_case (is_plain 91 c) (is_plain 46 c) (set_of (take (before_close cs) cs)) every_character c.byte h.0, within_items n (behind_item c cs) (behind_bytes c cs h.1))
-
-items_bytes : (cs : List Character) → Each HasByte cs → Each ItemByte (regular_items cs)
-unfolding cut
-items_bytes cs h = within_items (length cs) cs h
-
 abbrev RangesForm : Alphabet → Option (List Range) → Type 0
 RangesForm alphabet o = MatchOption o (Unit {0}) (AreRanges alphabet)
 
 set_ranges_form : (alphabet : Alphabet) (b folds : Bool) (s : CharacterSet) → RangesForm alphabet (if b then None else Some (set_ranges alphabet folds s))
 set_ranges_form alphabet true folds s = tt
-set_ranges_form alphabet false folds s = sets.set_form alphabet folds s
+set_ranges_form alphabet false folds s = ranges_form alphabet folds s
 
-named_form : (alphabet : Alphabet) (folds : Bool) (x : Named) → NamedByte x → RangesForm alphabet (named_ranges alphabet folds x)
-named_form alphabet folds (named.Character b) h = character_form alphabet folds b
-named_form alphabet folds (named.Set s) h = set_ranges_form alphabet (is_empty_word s) folds s
+named_form : (alphabet : Alphabet) (folds : Bool) (x : Named) → RangesForm alphabet (named_ranges alphabet folds x)
+named_form alphabet folds (named.Character b) = character_form alphabet folds b
+named_form alphabet folds (named.Set s) = set_ranges_form alphabet (is_empty_word s) folds s
 
-regular_items_form : (alphabet : Alphabet) (folds : Bool) (xs : List RegularItem) → Each ItemByte xs → Each (IsItem alphabet) (map (item_of alphabet folds) xs)
-regular_items_form alphabet folds [] h = tt
-regular_items_form alphabet folds (x ∷ xs) h = (named_form alphabet folds x.names h.0, regular_items_form alphabet folds xs h.1)
+regular_items_form : (alphabet : Alphabet) (folds : Bool) (xs : List RegularItem) → Each (IsItem alphabet) (map (item_of alphabet folds) xs)
+regular_items_form alphabet folds [] = tt
+regular_items_form alphabet folds (x ∷ xs) = (named_form alphabet folds x.names, regular_items_form alphabet folds xs)
 
-items_leaf_form : (alphabet : Alphabet) (folds : Bool) (xs : List RegularItem) → Each ItemByte xs → IsLeaf alphabet (items_leaf alphabet folds xs)
-items_leaf_form alphabet folds [] h = tt
-items_leaf_form alphabet folds (x ∷ xs) h = all (IsItem alphabet) (map (item_of alphabet folds) (x ∷ xs)) (regular_items_form alphabet folds (x ∷ xs) h)
+items_leaf_form : (alphabet : Alphabet) (folds : Bool) (xs : List RegularItem) → IsLeaf alphabet (items_leaf alphabet folds xs)
+items_leaf_form alphabet folds [] = tt
+items_leaf_form alphabet folds (x ∷ xs) = all (IsItem alphabet) (map (item_of alphabet folds) (x ∷ xs)) (regular_items_form alphabet folds (x ∷ xs))
 
-pub regular_form : (alphabet : Alphabet) (text : List ℕ) (l : Leaf) → All IsByte text → regular_leaf alphabet text ≡ Ok l → IsLeaf alphabet l
-regular_form alphabet text l h e =
+pub regular_form : (alphabet : Alphabet) (text : List ℕ) (l : Leaf) → regular_leaf alphabet text ≡ Ok l → IsLeaf alphabet l
+regular_form alphabet text l e =
     let items = regular_items (characters_within text) in
     let k = not_first (list_any (item_is_reversed alphabet) items) _ (Ok (items_leaf alphabet (ignores_case text) items)) l e in
     subst (IsLeaf alphabet) (same_leaf (items_leaf alphabet (ignores_case text) items) l k.1)
-    (items_leaf_form alphabet (ignores_case text) items (items_bytes (characters_within text) (within_bytes text h)))
+    (items_leaf_form alphabet (ignores_case text) items)
 
 -- ---- operands
 
@@ -217,21 +142,21 @@ told_between_ok : (low high : Place) (r : Result Leaf KeyFault) (l : Leaf) → t
 told_between_ok low high (Ok x) l e = ap (λ z. Ok z) (same_ok x l e)
 told_between_ok low high (Err f) l e = absurd (err_or_ok _ l e)
 
-layer_form : (alphabet : Alphabet) (x : Layer) (l : Leaf) → LayerBytes x → layer_leaf alphabet x ≡ Ok l → IsLeaf alphabet l
-layer_form alphabet (operand.Literal w) l h e = subst (IsLeaf alphabet) (same_ok (literal_leaf alphabet w.text) l e) (literal_form alphabet w.text h)
-layer_form alphabet (operand.Number n) l h e =
+layer_form : (alphabet : Alphabet) (x : Layer) (l : Leaf) → layer_leaf alphabet x ≡ Ok l → IsLeaf alphabet l
+layer_form alphabet (operand.Literal w) l e = subst (IsLeaf alphabet) (same_ok (literal_leaf alphabet w.text) l e) (literal_form alphabet w.text)
+layer_form alphabet (operand.Number n) l e =
     let i = ok_then (number_read n) (λ k. told_at (number_place n) (key_leaf alphabet k)) l e in
     key_form alphabet i.0 l (told_ok (number_place n) (key_leaf alphabet i.0) l i.2)
-layer_form alphabet (operand.Range low dots high) l h e =
+layer_form alphabet (operand.Range low dots high) l e =
     let i = ok_then (key_read alphabet low) (λ (lo : Key). and_then (key_read alphabet high) (λ (hi : Key). told_between (key_place low) (key_place high) (range_leaf alphabet lo.0 hi.0))) l e in
     let j = ok_then (key_read alphabet high) (λ (hi : Key). told_between (key_place low) (key_place high) (range_leaf alphabet i.0.0 hi.0)) l i.2 in
     range_form alphabet i.0.0 j.0.0 l (told_between_ok (key_place low) (key_place high) (range_leaf alphabet i.0.0 j.0.0) l j.2)
-layer_form alphabet (operand.Set w) l h e = set_form alphabet w.text l (told_ok w.place (set_leaf alphabet w.text) l e)
-layer_form alphabet (operand.RegularExpression w) l h e = regular_form alphabet w.text l h (told_ok w.place (regular_leaf alphabet w.text) l e)
-layer_form alphabet (operand.Name w) l h e = subst (IsLeaf alphabet) (same_ok leaf.Null l e) tt
-layer_form alphabet (operand.Group opening inner closing) l h e = subst (IsLeaf alphabet) (same_ok leaf.Null l e) tt
-layer_form alphabet (operand.Scanner s) l h e = subst (IsLeaf alphabet) (same_ok leaf.Null l e) tt
+layer_form alphabet (operand.Set w) l e = set_form alphabet w.text l (told_ok w.place (set_leaf alphabet w.text) l e)
+layer_form alphabet (operand.RegularExpression w) l e = regular_form alphabet w.text l (told_ok w.place (regular_leaf alphabet w.text) l e)
+layer_form alphabet (operand.Name w) l e = subst (IsLeaf alphabet) (same_ok leaf.Null l e) tt
+layer_form alphabet (operand.Group opening inner closing) l e = subst (IsLeaf alphabet) (same_ok leaf.Null l e) tt
+layer_form alphabet (operand.Scanner s) l e = subst (IsLeaf alphabet) (same_ok leaf.Null l e) tt
 
 -- a leaf that is read has its form
-pub leaf_form : (alphabet : Alphabet) (o : Operand) (l : Leaf) → HasBytes o → leaf_read alphabet o ≡ Ok l → IsLeaf alphabet l
-leaf_form alphabet o l h e = layer_form alphabet (out-Operand o) l h e
+pub leaf_form : (alphabet : Alphabet) (o : Operand) (l : Leaf) → leaf_read alphabet o ≡ Ok l → IsLeaf alphabet l
+leaf_form alphabet o l e = layer_form alphabet (out-Operand o) l e

@@ -31,6 +31,7 @@ use Rattle.rl_draft.specs.declared.expression.Leaf.TheVariants as leaf
 use Rattle.rl_draft.specs.declared.expression.Link.{Link}
 use Rattle.rl_draft.specs.declared.expression.Negation.{Negation}
 use Rattle.rl_draft.specs.declared.expression.Negation.TheVariants as negation
+use Rattle.rl_draft.specs.declared.expression.NegationSign.{NegationSign}
 use Rattle.rl_draft.specs.declared.expression.Put.{Put}
 use Rattle.rl_draft.specs.declared.expression.Repetition.{Repetition}
 use Rattle.rl_draft.specs.declared.expression.Repetition.TheVariants as repetition
@@ -104,9 +105,10 @@ module _ (alphabet : Alphabet) (H : Plain → Type 0) (Q : Put → Type 0) (S : 
   whole_holds negation.Language at = every_holds at
   whole_holds negation.Character at = kept.every at
 
-  all_negated_hold : (ms : List Negation) (a : Plain) (at : Place) → H a → H (all_negated alphabet ms a at)
-  all_negated_hold [] a at h = h
-  all_negated_hold (m ∷ ms) a at h = kept.pair p.Less (whole alphabet m at) (all_negated alphabet ms a at) at (whole_holds m at) (all_negated_hold ms a at h)
+  all_negated_hold : (ms : List NegationSign) (a : Plain) → H a → H (all_negated alphabet ms a)
+  all_negated_hold [] a h = h
+  all_negated_hold (m ∷ ms) a h = kept.pair p.Less (whole alphabet m.negation m.place) (all_negated alphabet ms a) m.place (whole_holds m.negation m.place)
+      (all_negated_hold ms a h)
 
   character_holds : (r : Option (List Range)) (at : Place) → HoldsOfRanges S r → H (character r at)
   character_holds None at h = kept.empty at
@@ -153,9 +155,9 @@ module _ (alphabet : Alphabet) (H : Plain → Type 0) (Q : Put → Type 0) (S : 
     of_name : (i : ℕ) → Holds (made.Name i)
     of_name i = subst H (sym (ap (plain alphabet known) (sym (rolls-Name i)) ∙ fold-roll-Expression Plain Operand (expression_step alphabet known) link_step (level.Name i))) (named_holds known i h_known)
 
-    of_negated : (ns : List Negation) (at : Place) (e : Expression) → Holds e → Holds (made.Negated ns e at)
-    of_negated ns at e h = subst H (sym (ap (plain alphabet known) (sym (rolls-Negated ns e at)) ∙ fold-roll-Expression Plain Operand (expression_step alphabet known) link_step (level.Negated ns e at)))
-        (all_negated_hold ns (plain alphabet known e) at h)
+    of_negated : (ns : List NegationSign) (e : Expression) → Holds e → Holds (made.Negated ns e)
+    of_negated ns e h = subst H (sym (ap (plain alphabet known) (sym (rolls-Negated ns e)) ∙ fold-roll-Expression Plain Operand (expression_step alphabet known) link_step (level.Negated ns e)))
+        (all_negated_hold ns (plain alphabet known e) h)
 
     of_repeated : (rs : List Repetition) (at : Place) (e : Expression) → Holds e → Holds (made.Repeated e rs at)
     of_repeated rs at e h = subst H (sym (ap (plain alphabet known) (sym (rolls-Repeated e rs at)) ∙ fold-roll-Expression Plain Operand (expression_step alphabet known) link_step (level.Repeated e rs at)))

@@ -29,7 +29,7 @@ use Rattle.rl_draft.specs.declared.expression.Expression.TheVariants as made
 use Rattle.rl_draft.specs.declared.expression.Join.{Join}
 use Rattle.rl_draft.specs.declared.expression.Leaf.{Leaf}
 use Rattle.rl_draft.specs.declared.expression.Link.{Link}
-use Rattle.rl_draft.specs.declared.expression.Negation.{Negation}
+use Rattle.rl_draft.specs.declared.expression.NegationSign.{NegationSign}
 use Rattle.rl_draft.specs.declared.expression.Put.{Put}
 use Rattle.rl_draft.specs.declared.expression.Repetition.{Repetition}
 use Rattle.rl_leaves.specs.BuiltIns.{built_in_named, built_in_leaf}
@@ -69,7 +69,7 @@ module _ (k : Scope) (P : Expression → Type 0) (PL : Link → Type 0) (Q : Put
     (leaf_holds : (o : Operand) (l : Leaf) (at : Place) → B (events.Leaf o) → leaf_read k.alphabet o ≡ Ok l → P (made.Leaf l at))
     (built_in_holds : (b : BuiltIn) (at : Place) → P (made.Leaf (built_in_leaf k.alphabet b) at))
     (name_holds : (i : ℕ) → P (made.Name i))
-    (negated_holds : (ns : List Negation) (at : Place) (e : Expression) → P e → P (made.Negated ns e at))
+    (negated_holds : (ns : List NegationSign) (e : Expression) → P e → P (made.Negated ns e))
     (repeated_holds : (rs : List Repetition) (at : Place) (e : Expression) → P e → P (made.Repeated e rs at))
     (puts_hold : (ps : List Put) (at : Place) (e : Expression) → P e → Each Q ps → P (made.Embedded e ps at))
     (chain_holds : (ls : List Link) (at : Place) (e : Expression) → P e → Each PL ls → P (made.Chain e ls at))
@@ -93,9 +93,9 @@ module _ (k : Scope) (P : Expression → Type 0) (PL : Link → Type 0) (Q : Put
   of_named w (Some b) = of_ok P (made.Leaf (built_in_leaf k.alphabet b) w.place) (built_in_holds b w.place)
   of_named w None = of_then (λ i. Unit {0}) P (numbered w.place w.text k.names) (λ i. definition_used w.place i (slice_get k.earlier i)) (λ i e. tt) (λ i h. of_used w.place i (slice_get k.earlier i))
 
-  of_negations : (ns : List Negation) (at : Place) (e : Expression) → P e → P (with_negations ns at e)
-  of_negations [] at e h = h
-  of_negations (n ∷ ns) at e h = negated_holds (n ∷ ns) at e h
+  of_negations : (ns : List NegationSign) (e : Expression) → P e → P (with_negations ns e)
+  of_negations [] e h = h
+  of_negations (n ∷ ns) e h = negated_holds (n ∷ ns) e h
 
   of_repetitions : (rs : List Repetition) (at : Place) (e : Expression) → P e → P (with_repetitions rs at e)
   of_repetitions [] at e h = h
@@ -201,7 +201,7 @@ module _ (k : Scope) (P : Expression → Type 0) (PL : Link → Type 0) (Q : Put
       (let g = subst (Each B) (fold-roll-Embedded Found Found Found Found Found Found Found Found Found Found events.operand_step events.concatenation_step events.concatenation_part_step events.embedded_step events.negated_step events.pattern_step events.repeated_step events.scanner_step events.union_step events.union_part_step m) h in of_then P P (x.repeated_told k m.operand).read _ (subst (λ z. HasRepeated z.operand) is y.operand.1 (each_front B (events.repeated_events m.operand) (flat_map events.embedding_events m.embeddings) g))
       (λ e f. of_then (Each Q) P (each (put_read k) m.embeddings) _ (λ ps r. each_read Q (put_read k) put_holds m.embeddings ps r) (λ ps fs. of_ok P _ (of_puts ps (x.repeated_told k m.operand).place e f fs)))))
       (λ n y is h. subst (λ (t : Told). OfRead P t.read) (sym (fold-roll-Negated Told Told Joined Told Told Place Told Place Told Joined (x.operand_step k) (x.concatenation_step k) (x.concatenation_part_step k) (x.embedded_step k) (x.negated_step k) (x.pattern_step k) (x.repeated_step k) (x.scanner_step k) (x.union_step k) (x.union_part_step k) n))
-      (let g = subst (Each B) (fold-roll-Negated Found Found Found Found Found Found Found Found Found Found events.operand_step events.concatenation_step events.concatenation_part_step events.embedded_step events.negated_step events.pattern_step events.repeated_step events.scanner_step events.union_step events.union_part_step n) h in of_then P P (x.operand_told k n.operand).read _ (subst (λ z. HasOperand z.operand) is y.operand.1 g) (λ e f. of_ok P _ (of_negations (map negation_of n.negations) _ e f))))
+      (let g = subst (Each B) (fold-roll-Negated Found Found Found Found Found Found Found Found Found Found events.operand_step events.concatenation_step events.concatenation_part_step events.embedded_step events.negated_step events.pattern_step events.repeated_step events.scanner_step events.union_step events.union_part_step n) h in of_then P P (x.operand_told k n.operand).read _ (subst (λ z. HasOperand z.operand) is y.operand.1 g) (λ e f. of_ok P _ (of_negations (map negation_of n.negations) e f))))
       (λ p y is. tt)
       (λ r y is h. subst (λ (t : Told). OfRead P t.read) (sym (fold-roll-Repeated Told Told Joined Told Told Place Told Place Told Joined (x.operand_step k) (x.concatenation_step k) (x.concatenation_part_step k) (x.embedded_step k) (x.negated_step k) (x.pattern_step k) (x.repeated_step k) (x.scanner_step k) (x.union_step k) (x.union_part_step k) r))
       (let g = subst (Each B) (fold-roll-Repeated Found Found Found Found Found Found Found Found Found Found events.operand_step events.concatenation_step events.concatenation_part_step events.embedded_step events.negated_step events.pattern_step events.repeated_step events.scanner_step events.union_step events.union_part_step r) h in of_then P P (x.negated_told k r.operand).read _ (subst (λ z. HasNegated z.operand) is y.operand.1 g)

@@ -3,7 +3,8 @@ use Rattle.std.proofs.Common.{◌≡◌, ℕ, ◌≤◌, Bool, true, false, cond
 use Rattle.std.specs.Prelude.{All, MatchOption}
 use Rattle.std.specs.List.{flat_map}
 use Rattle.rl_types.specs.declared.alphabet.Alphabet.{Alphabet}
-use Rattle.rl_types.specs.declared.alphabet.Alphabet.TheVariants.{Char, UnsignedChar}
+use Rattle.rl_types.specs.Alphabet.{least_key, greatest_key}
+use Rattle.rl_types.specs.declared.alphabet.Alphabet.TheVariants.{Char, UnsignedChar, Short, UnsignedShort, Int, UnsignedInt}
 use Rattle.rl_types.specs.declared.numbers.ActionId.{ActionId}
 use Rattle.rl_types.specs.KeyRange.{Range}
 use Rattle.rl_automata.specs.Refused.{sets_in}
@@ -18,8 +19,6 @@ use Rattle.rl_leaves.specs.Forms.{AreRanges, IsItem, IsLeaf}
 use Rattle.rl_leaves.proofs.BuiltInLaws.{built_in_form}
 use Rattle.rl_grammar.specs.declared.step.Step.{Step}
 use Rattle.rl_names.specs.Drafts.{definitions_of}
-use Rattle.rl_names.specs.Events.{Event}
-use Rattle.rl_names.specs.Events as events
 use Rattle.rl_names.specs.Expressions.{Scope}
 use Rattle.rl_rewrite.specs.Entries.{Made, Meaning, meanings_of, is_entry, entry, entries, made_by, conditions_by}
 use Rattle.rl_rewrite.specs.Plain as p
@@ -27,14 +26,9 @@ use Rattle.rl_rewrite.specs.Plain.{Plain, plains}
 use Rattle.rl_rewrite.specs.Walk.{walk, begun}
 use Rattle.rl_rewrite.proofs.SetLaws.{AreSets, walk_sets}
 use Rattle.rl_form.proofs.Lists.{Each, each_append, each, all}
-use Rattle.rl_formed.specs.Laws.{HasBytes}
+use Rattle.rl_formed.proofs.EmbeddedLaws.{AnyEvent, any_steps}
 use Rattle.rl_formed.proofs.LeafLaws.{leaf_form}
-use Rattle.rl_formed.proofs.PlainLaws.{IsKept, HoldsOfRanges, HoldsOfLeaf, HoldsOfEvents, all_meanings}
-
--- the bytes of a leaf's text are bytes
-abbrev pub IsOfBytes : Event → Type 0
-IsOfBytes (events.Leaf o) = HasBytes o
-IsOfBytes _ = Unit {0}
+use Rattle.rl_formed.proofs.PlainLaws.{IsKept, HoldsOfRanges, HoldsOfLeaf, all_meanings}
 
 module _ (alphabet : Alphabet) where
   -- few ranges, of keys of the alphabet
@@ -79,19 +73,26 @@ module _ (alphabet : Alphabet) where
   entries_few cs (m ∷ ms) h =
       each_append (λ (x : Made). Each IsFew (flat_map sets_in (trees_of x.root))) (made_by cs m) (entries (conditions_by cs m) ms) (made_few (is_entry m.sign) cs m h.0) (entries_few (conditions_by cs m) ms h.1)
 
-  all_few_by : IsFew (p.any alphabet) → (k : Scope) (machine : List ℕ) (steps : List Step) (ds : List Definition) → k.alphabet ≡ alphabet → Each (λ (s : Step). HoldsOfEvents IsOfBytes s.statement) steps → definitions_of k machine steps ≡ Ok ds
+  all_few_by : IsFew (p.any alphabet) → (k : Scope) (machine : List ℕ) (steps : List Step) (ds : List Definition) → k.alphabet ≡ alphabet → definitions_of k machine steps ≡ Ok ds
       → Each (λ (x : Made). Each IsFew (flat_map sets_in (trees_of x.root))) (entries [] (meanings_of ds (plains alphabet ds)))
-  all_few_by any k machine steps ds same bytes e =
+  all_few_by any k machine steps ds same e =
       entries_few [] (meanings_of ds (plains alphabet ds))
-      (all_meanings alphabet (AreSets IsFew) (λ q. Unit {0}) IsFew (kept any) (λ ranges at h. h) IsOfBytes (λ o l b r. leaf_few l (leaf_form alphabet o l b r)) (λ b. leaf_few (built_in_leaf alphabet b) (built_in_form alphabet b))
-      k machine steps ds (λ names earlier owner. (same, (λ m a r. tt))) bytes e)
+      (all_meanings alphabet (AreSets IsFew) (λ q. Unit {0}) IsFew (kept any) (λ ranges at h. h) AnyEvent (λ o l b r. leaf_few l (leaf_form alphabet o l r)) (λ b. leaf_few (built_in_leaf alphabet b) (built_in_form alphabet b))
+      k machine steps ds (λ names earlier owner. (same, (λ m a r. tt))) (any_steps steps) e)
 
 -- every key of an alphabet is one of its keys
+any_within : (alphabet : Alphabet) → IsInAlphabet alphabet (record { lo = least_key alphabet; hi = greatest_key alphabet })
+any_within Char = refl
+any_within UnsignedChar = refl
+any_within Short = refl
+any_within UnsignedShort = refl
+any_within Int = refl
+any_within UnsignedInt = refl
+
 any_few : (alphabet : Alphabet) → IsFew alphabet (p.any alphabet)
-any_few Char = (omega arith, all (IsInAlphabet Char) (p.any Char) (refl, tt))
-any_few UnsignedChar = (omega arith, all (IsInAlphabet UnsignedChar) (p.any UnsignedChar) (refl, tt))
+any_few alphabet = (omega arith, all (IsInAlphabet alphabet) (p.any alphabet) (any_within alphabet, tt))
 
 -- the sets of all entries
-pub all_few : (alphabet : Alphabet) (k : Scope) (machine : List ℕ) (steps : List Step) (ds : List Definition) → k.alphabet ≡ alphabet → Each (λ (s : Step). HoldsOfEvents IsOfBytes s.statement) steps → definitions_of k machine steps ≡ Ok ds
+pub all_few : (alphabet : Alphabet) (k : Scope) (machine : List ℕ) (steps : List Step) (ds : List Definition) → k.alphabet ≡ alphabet → definitions_of k machine steps ≡ Ok ds
     → Each (λ (x : Made). Each (IsFew alphabet) (flat_map sets_in (trees_of x.root))) (entries [] (meanings_of ds (plains alphabet ds)))
-all_few alphabet k machine steps ds same bytes e = all_few_by alphabet (any_few alphabet) k machine steps ds same bytes e
+all_few alphabet k machine steps ds same e = all_few_by alphabet (any_few alphabet) k machine steps ds same e

@@ -1,11 +1,10 @@
 -- What holds of each draft, and of the entries that it is rewritten to.
 use Rattle.std.specs.Prelude.{◌≡◌, ℕ, ◌≤◌, ◌<◌, ◌^◌, IsTrue, List, [], map, length, None, Ok, All}
+use Rattle.rl_types.specs.declared.alphabet.Alphabet.{Alphabet}
 use Rattle.rl_types.specs.declared.numbers.ActionId.{ActionId}
 use Rattle.rl_types.specs.declared.numbers.Place.{Place}
 use Rattle.std.specs.List.{flat_map}
 use Rattle.rl_types.specs.KeyRange.{Range}
-use Rattle.rl_grammar.specs.declared.syntax.Operand.{Operand, out-Operand}
-use Rattle.rl_grammar.specs.declared.syntax.Operand.TheOpen as operand
 use Rattle.rl_grammar.specs.declared.syntax.Statement.{Statement}
 use Rattle.rl_grammar.specs.declared.syntax.Statement.TheVariants as statement
 use Rattle.rl_arrays.specs.Names.{is_name, is_action_name}
@@ -22,7 +21,6 @@ use Rattle.rl_names.specs.Events.{Event, union_events}
 use Rattle.rl_names.specs.Events as event
 use Rattle.rl_names.specs.Frames.{machines_of}
 use Rattle.rl_names.specs.Names.{names_fault}
-use Rattle.rl_names.specs.Values.{Layer}
 use Rattle.rl_rewrite.specs.Entries.{Made, meanings, entries, all_conditions}
 use Rattle.rl_form.specs.Form.{IsPlain}
 
@@ -70,24 +68,11 @@ OfNamed P = (steps : List Step) (machine : List ℕ) (draft : Draft) → names_f
 abbrev pub Fits : Place → Type 0
 Fits p = (p.file < 2 ^ 64) × (p.line < 2 ^ 64) × (p.col < 2 ^ 64)
 
-abbrev pub IsByte : ℕ → Type 0
-IsByte b = b < 256
-
--- the bytes of its text are bytes
-abbrev pub LayerBytes : Layer → Type 0
-LayerBytes (operand.Literal w) = All IsByte w.text
-LayerBytes (operand.RegularExpression w) = All IsByte w.text
-LayerBytes _ = Unit {0}
-
-abbrev pub HasBytes : Operand → Type 0
-HasBytes o = LayerBytes (out-Operand o)
-
 abbrev pub IsUsedAsWritten : Event → Type 0
-IsUsedAsWritten (event.Leaf o) = HasBytes o
 IsUsedAsWritten (event.Code w) = Fits w.place
 IsUsedAsWritten _ = Unit {0}
 
--- its names are names, and its bytes are bytes, as those that tokens have
+-- its names are names, as those that tokens have
 abbrev pub IsWritten : Statement → Type 0
 IsWritten (statement.Machine m) = IsTrue (is_name m.name.text)
 IsWritten (statement.Action a) = IsTrue (is_name a.name.text)
@@ -105,9 +90,12 @@ HasNamedEntries draft = All (λ (m : Made). IsTrue (is_name m.name)) (entries []
 abbrev pub HasNamedActions : Draft → Type 0
 HasNamedActions draft = All (λ (a : ActionDef). IsTrue (is_action_name a.name)) draft.actions
 
+abbrev pub IsSmallSet : Alphabet → List Range → Type 0
+IsSmallSet alphabet ranges = (length ranges ≤ 256) × All (IsInAlphabet alphabet) ranges
+
 -- the sets of its entries are few ranges, of keys of the alphabet
 abbrev pub HasSmallSets : Draft → Type 0
-HasSmallSets draft = All (λ (m : Made). All (λ (ranges : List Range). (length ranges ≤ 256) × All (IsInAlphabet draft.alphabet) ranges) (flat_map sets_in (trees_of m.root))) (entries [] (meanings draft))
+HasSmallSets draft = All (λ (m : Made). All (IsSmallSet draft.alphabet) (flat_map sets_in (trees_of m.root))) (entries [] (meanings draft))
 
 -- it holds of every draft that such statements are read as
 abbrev pub OfWritten : (Draft → Type 0) → Type 0

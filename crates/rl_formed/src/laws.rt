@@ -2,7 +2,8 @@
 ghost use Rattle.rl_formed.specs.Laws.{IsQuiet, HasOwnActions, HasOwnEntries, HasPlainEntries, EmbedsOwnActions, HasOwnConditions, HasFewActions, HasFewEntries, HasNamedEntries, HasNamedActions, HasSmallSets, HaveNamedMachines, HasActionsIn, HasWritesIn, OfDrafts, OfFiles, OfNamed, OfWritten};
 
 /// The Spec of a draft: no action has a control statement, no two actions and no two entries have one name, no entry is
-/// a scanner, and each action that an entry embeds and each condition is an action of the machine. Where no fault of names is found there are at most 65,535 actions and entries.
+/// a scanner, each action that an entry embeds and each condition is an action of the machine, and the sets of entries
+/// are few ranges of keys of the alphabet. Where no fault of names is found there are at most 65,535 actions and entries.
 pub fn specs_are_formed()
     ensures quiet { OfDrafts IsQuiet }
     ensures actions { OfDrafts HasOwnActions }
@@ -10,18 +11,17 @@ pub fn specs_are_formed()
     ensures plain { OfDrafts HasPlainEntries }
     ensures embedded { OfDrafts EmbedsOwnActions }
     ensures conditions { OfDrafts HasOwnConditions }
+    ensures sets { OfDrafts HasSmallSets }
     ensures few_actions { OfNamed HasFewActions }
     ensures few_entries { OfNamed HasFewEntries }
 {}
 
 /// Where the names in statements are names, as those that tokens have, so are those of machines, entries and actions; an
-/// action without a name is called by its place. The sets of
-/// entries are few ranges of keys.
+/// action without a name is called by its place.
 pub fn names_are_written()
     ensures entries { OfWritten HasNamedEntries }
     ensures actions { OfWritten HasNamedActions }
     ensures machines { HaveNamedMachines }
-    ensures sets { OfWritten HasSmallSets }
 {}
 
 /// Actions and `write` statements stand in the files of their statements.

@@ -1,4 +1,4 @@
-use Rattle.rl_formed.proofs.DraftLaws.{have_named_entries, have_named_actions, have_named_machines, have_small_sets}
+use Rattle.rl_formed.proofs.DraftLaws.{have_named_entries, have_named_actions, have_named_machines}
 use Rattle.rl_formed.proofs.laws.names_are_written.Goals as goal
 
 pub returns-clause-entries : goal.returns-clause-entries
@@ -9,6 +9,3 @@ returns-clause-actions c = have_named_actions
 
 pub returns-clause-machines : goal.returns-clause-machines
 returns-clause-machines c = have_named_machines
-
-pub returns-clause-sets : goal.returns-clause-sets
-returns-clause-sets c = have_small_sets

@@ -1,4 +1,4 @@
-use Rattle.rl_formed.proofs.DraftLaws.{are_quiet, have_own_actions, have_own_entries, have_plain_entries, have_few_actions, have_few_entries, embed_own_actions, have_own_conditions}
+use Rattle.rl_formed.proofs.DraftLaws.{are_quiet, have_own_actions, have_own_entries, have_plain_entries, have_few_actions, have_few_entries, embed_own_actions, have_own_conditions, have_small_sets}
 use Rattle.rl_formed.proofs.laws.specs_are_formed.Goals as goal
 
 pub returns-clause-quiet : goal.returns-clause-quiet
@@ -24,3 +24,6 @@ returns-clause-embedded c = embed_own_actions
 
 pub returns-clause-conditions : goal.returns-clause-conditions
 returns-clause-conditions c = have_own_conditions
+
+pub returns-clause-sets : goal.returns-clause-sets
+returns-clause-sets c = have_small_sets
