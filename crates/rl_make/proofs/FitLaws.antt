@@ -55,11 +55,11 @@ all_right : (P : ℕ → Type 0) (xs ys : List ℕ) → AllByRecursion P (xs ++ 
 all_right P [] ys h = h
 all_right P (x ∷ xs) ys h = all_right P xs ys h.1
 
-all_in : {X : Type 0} (P : X → Type 0) (xs : List X) → ((x : X) → In x xs → P x) → AllByRecursion P xs
+pub all_in : {X : Type 0} (P : X → Type 0) (xs : List X) → ((x : X) → In x xs → P x) → AllByRecursion P xs
 all_in P [] h = tt
 all_in P (x ∷ xs) h = (h x (inl refl), all_in P xs (λ y i. h y (inr i)))
 
-in_all : {X : Type 0} (P : X → Type 0) (xs : List X) → AllByRecursion P xs → (x : X) → In x xs → P x
+pub in_all : {X : Type 0} (P : X → Type 0) (xs : List X) → AllByRecursion P xs → (x : X) → In x xs → P x
 in_all P [] h x i = absurd i
 in_all P (y ∷ xs) h x (inl q) = subst P q h.0
 in_all P (y ∷ xs) h x (inr i) = in_all P xs h.1 x i
@@ -182,7 +182,7 @@ module _ (spec : Spec) (well : IsWellFormed spec) (entries : List EntryFsm) (m :
       own = ap (λ es. option_map go_of (edge_for (own_letter (reads_of e)) es)) edges_are
           ∙ ap (option_map go_of) (edge_found s.edges reads is_state.edges.ascending e j)
 
-      own_step : (g : Go (TreeState plain)) × (tree.find q first_key e.truths.0 ≡ Some g) × ListR tree small (λ a. a) (After Named Counted) g.list (numbers e.list)
+      pub own_step : (g : Go (TreeState plain)) × (tree.find q first_key e.truths.0 ≡ Some g) × ListR tree small (λ a. a) (After Named Counted) g.list (numbers e.list)
       own_step = step_from first_key e.truths.0 e own
 
       low_in : IsTrue (has_key plain.alphabet e.range.lo)

@@ -3,3 +3,4 @@ pub mod FitLaws
 pub mod WriteLaws
 pub mod NameLaws
 pub mod OneCharacterLaws
+pub mod NamedLaws

@@ -4,6 +4,7 @@ use Rattle.rl_arrays.specs.declared.arrays.Arrays.{Arrays}
 use Rattle.rl_arrays.specs.TableMachine as tables
 use Rattle.rl_run.specs.declared.sessions.Settings.{Settings}
 use Rattle.rl_run.specs.Machine.{Machine}
+use Rattle.rl_run.specs.Run.{input_at}
 use Rattle.rl_run.specs.Verdict.{verdict_of}
 use Rattle.rl_model.specs.declared.spec.Spec.{Spec}
 use Rattle.rl_model.specs.Specification.{specification_of}
@@ -23,7 +24,7 @@ pub one_session_alike : {S : Type 0} (names other : Names) (m : Machine S) (sett
     written names m settings (whole_input s entry bytes) ≡ written other m settings (whole_input s entry bytes)
 one_session_alike names other m settings s entry bytes e =
     one_run names m settings s entry bytes
-    ∙ ap (λ n. run_lines m settings s (host m []) n (record { base = 0; bytes = bytes; is_closed = true })) e
+    ∙ ap (λ n. run_lines m settings s (host m []) n (input_at m.width 0 bytes true)) e
     ∙ sym (one_run other m settings s entry bytes)
 
 -- only the entries have names
@@ -35,11 +36,11 @@ module _ {S : Type 0} (names other : Names) (same : names.entries ≡ other.entr
   entry_same past = ap (λ entries. entry_of (named entries) past) same
 
   session_same : (s : List ℕ) (own past : List Line) → session_lines names m settings s own past ≡ session_lines other m settings s own past
-  session_same s own past = ap (λ n. cond (is_opened past) (run_lines m settings s (host m own) n (input_of past)) []) (entry_same past)
+  session_same s own past = ap (λ n. cond (is_opened past) (run_lines m settings s (host m own) n (input_of m.width past)) []) (entry_same past)
 
   left_same : (s : List ℕ) (own : List Line) → left_part names m settings s own ≡ left_part other m settings s own
   left_same s own =
-      ap (λ n. let run = session_run m settings (host m own) n (input_of own) in record { session = s; text = left_line s (verdict_of m run.1) run.1.session.next })
+      ap (λ n. let run = session_run m settings (host m own) n (input_of m.width own) in record { session = s; text = left_line s (verdict_of m run.1) run.1.session.next })
       (entry_same own)
 
   module _ (script : List Line) where

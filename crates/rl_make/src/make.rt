@@ -11,7 +11,8 @@ ghost use Rattle.rl_model.specs.Specification.{specification_of};
 ghost use Rattle.rl_model.specs.Trees.{HasHonestTests};
 ghost use Rattle.rl_model.specs.WellFormed.{IsWellFormed};
 ghost use Rattle.rl_build.specs.Entries.{AllPlain, TellsRefusal};
-ghost use Rattle.rl_make.specs.Writes.{IsBuiltOf, WritesAs, entry_names};
+ghost use Rattle.rl_make.specs.Named.{NamesUsed};
+ghost use Rattle.rl_make.specs.Writes.{IsBuiltOf, WritesAs, condition_names, entry_names};
 ghost use Rattle.rl_script.specs.TableNames.{names_in};
 
 use rl_build::{BuildFault, BuildRefusal, build};
@@ -57,6 +58,8 @@ fn laid_out(alloc: Global, spec: &Spec, root: &RootFsm) -> Result<Tables, Memory
     ensures valid { IfOk result Valid }
     ensures writes { IfOk result (WritesAs spec.now) }
     ensures entries { IfOk result (λ t. (names_in t).entries ≡ entry_names spec.now) }
+    ensures actions { IfOk result (NamesUsed spec.now) }
+    ensures conditions { IfOk result (λ t. (names_in t).conditions ≡ condition_names spec.now) }
 {
     let machine = numbered(alloc, root)?;
     let tables = layout(alloc, spec, &machine)?;
@@ -64,8 +67,9 @@ fn laid_out(alloc: Global, spec: &Spec, root: &RootFsm) -> Result<Tables, Memory
 }
 
 /// The tables of a well-formed Spec: the machines of its entries are built, their states get canonical numbers, and they
-/// are laid out in arrays. The tables write for each script what the expressions write. Entries that are scanners (the
-/// guide's section 6.3) are not built yet.
+/// are laid out in arrays. The tables write for each script what the expressions write. They name the Spec's entries and
+/// conditions, and of its actions those that stand in a list of a state or step which the entries reach. Entries that
+/// are scanners (the guide's section 6.3) are not built yet.
 ///
 /// An `Err` tells the first node that is refused, with the entries in text order and the nodes of each in post-order:
 /// `L6`, `L8` or `F15`, as `build` says, with the place of its first token; or `Memory`, at no place of its own.
@@ -76,6 +80,8 @@ pub fn tables_of(alloc: Global, spec: &Spec) -> Result<Tables, BuildRefusal>
     ensures valid { IfOk result Valid }
     ensures writes { IfOk result (WritesAs spec.now) }
     ensures entries { IfOk result (λ t. (names_in t).entries ≡ entry_names spec.now) }
+    ensures actions { IfOk result (NamesUsed spec.now) }
+    ensures conditions { IfOk result (λ t. (names_in t).conditions ≡ condition_names spec.now) }
     ensures tests { OnOk result (HasHonestTests (specification_of spec.now)) }
     ensures accepted { OnOk result (IsBuildable spec.now) }
     ensures refused { IfErr result (TellsRefusal spec.now) }
