@@ -1,13 +1,14 @@
 #!/usr/bin/env bash
 # Times the building of machines: a source is read, its machine built, and a short input run.
 #
-#   bench/build.sh [any | chain | words] ..
+#   bench/build.sh [any | chain | words | alphabets] ..
 #
 # any     `main := any* 'a' any{n};` for n = 4 to 13, whose machine has 2 to the n + 1 configurations
 # chain   a word of 10,000 characters, as 100 literals of 100 characters one behind another
 # words   250, 500 and 1,000 words, a literal each, joined by `|`, with a finishing action on each or on all of them
+# alphabets  one source under `char` and under `unsigned int`: 300 sets by `^`, `any` and ranges in a row, and `any* 'a' any{12}`
 #
-# Without a word it times all three. A line has the seconds, the configurations, the seconds for each of them and, where GNU
+# Without a word it times all four. A line has the seconds, the configurations, the seconds for each of them and, where GNU
 # time is there, the most memory that the program had. The sources stand in a temporary folder, which is removed. RAGEL_RUN
 # names another program than bin/ragel-run, RUNS how often each is run (1; the least time counts), MOST the greatest n (13),
 # and LIMIT the seconds after which a run is given up (600). The status is 1 where a run did not print what it must.
@@ -22,9 +23,9 @@ for number in "$runs" "$most" "$limit"; do
 done
 [ -x "$program" ] || { echo "bench: no program $program" >&2; exit 1; }
 case $program in /*) ;; *) program=$PWD/$program ;; esac
-[ $# -gt 0 ] || set -- any chain words
+[ $# -gt 0 ] || set -- any chain words alphabets
 for what; do
-  case $what in any | chain | words) ;; *) echo "bench: any, chain or words" >&2; exit 2 ;; esac
+  case $what in any | chain | words | alphabets) ;; *) echo "bench: any, chain, words or alphabets" >&2; exit 2 ;; esac
 done
 
 work=$(mktemp -d) || exit 1
@@ -146,6 +147,32 @@ words() {
     make_words "$count"
     count_beginnings
     alternatives
+  done
+}
+
+# The characters of a text in an alphabet of so many bytes each, the low byte first, as a script has them.
+wide() {
+  local text=$1 width=$2 i zeros=
+  for ((i = 1; i < width; i++)); do zeros+='\x00'; done
+  for ((i = 0; i < ${#text}; i++)); do printf '%s%s' "${text:i:1}" "$zeros"; done
+}
+
+alphabets() {
+  local alphabet width i text=
+  for ((i = 0; i < 300; i++)); do text+=${letters:$((i % 20 + 3)):1}; done
+  for alphabet in char 'unsigned int'; do
+    width=1
+    [ "$alphabet" = char ] || width=4
+    {
+      printf '%%%%{\nmachine m;\nalphtype %s;\nmain :=\n' "$alphabet"
+      for ((i = 0; i < 300; i++)); do printf "  ( [^a%s] & any - ( 'a'..'b' | [^!-~] ) )\n" "${letters:$((i % 20 + 4)):1}"; done
+      printf ';\n}%%%%\n'
+    } >m.rl
+    script "$(wide "$text" "$width")"
+    measure "300 sets, $alphabet" 301 's end final 300'
+    printf "%%%%{ machine m; alphtype %s; main := any* 'a' any{12}; }%%%%\n" "$alphabet" >m.rl
+    script "$(wide axxxxxxxxxxxx "$width")"
+    measure "any* 'a' any{12}, $alphabet" 8192 's end final 13'
   done
 }
 
