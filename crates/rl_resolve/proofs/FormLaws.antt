@@ -248,7 +248,7 @@ draft_sound count steps machine draft w f named none h within = record {
   machine = subst (λ z. IsTrue (is_name z)) (ap (λ (d : Draft). d.machine) (drafts.read steps machine draft h).is) named;
   named_entries = drafts.have_named_entries steps machine draft w h;
   named_actions = drafts.have_named_actions steps machine draft w h;
-  sets = drafts.have_small_sets steps machine draft w h;
+  sets = drafts.have_small_sets steps machine draft h;
   actions_in = drafts.have_actions_in count steps machine draft f h;
   writes_in = drafts.have_writes_in count steps machine draft f h;
 }
