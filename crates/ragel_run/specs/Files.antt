@@ -4,11 +4,10 @@ use Rattle.std.specs.Prelude.{◌≡◌, ◌≢◌, ◌==◌, ◌⊎◌, ℕ, Bo
 use Rattle.std.specs.List.{ends_with}
 use Rattle.rl_io.specs.Outside.{Held, Reads}
 use Rattle.rl_arrays.specs.declared.arrays.Arrays.{Arrays}
-use Rattle.rl_arrays.specs.Section.{entries}
 use Rattle.rl_arrays.specs.Valid.{Valid}
 use Rattle.rl_cread.specs.declared.fault.TableFault.{TableFault}
 use Rattle.rl_cread.specs.declared.fault.TableFault.TheVariants.{Memory}
-use Rattle.rl_cread.specs.Contents.{IsPrintable}
+use Rattle.rl_cread.specs.Contents.{HasNumbers}
 use Rattle.rl_cread.specs.Sections.{IsRead, Explains}
 use Rattle.rl_make.specs.Writes.{WritesAs, entry_names}
 use Rattle.rl_model.specs.declared.spec.Spec.{Spec}
@@ -36,10 +35,10 @@ pub record IsMade (held : Held) (name : List ℕ) (a : Arrays) : Type 0 where
   pub has : HasSource held name source
   pub made : IsMadeFor source a
 
--- the first section of a text spells these arrays, which can be printed, and they are valid
+-- the first section of a text spells these arrays, whose numbers fit their type, and they are valid
 pub record IsSection (text : List ℕ) (a : Arrays) : Type 0 where
   pub spells : IsRead None text a
-  pub fits : IsPrintable a (entries a)
+  pub fits : HasNumbers a
   pub valid : Valid a
 
 -- the first section of the text under a name spells these arrays, and no others; they are valid

@@ -192,6 +192,7 @@ fn array_word(array: ArrayName) -> &'static [u8]
         ArrayName::SingleLengths => b"single_lengths",
         ArrayName::RangeLengths => b"range_lengths",
         ArrayName::CellOffsets => b"cell_offsets",
+        ArrayName::CellUses => b"cell_uses",
         ArrayName::CellAsks => b"cell_asks",
         ArrayName::CellEntries => b"cell_entries",
         ArrayName::TransTargs => b"trans_targs",
