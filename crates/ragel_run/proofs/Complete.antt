@@ -1,14 +1,14 @@
 -- A replay that meets no fault ends as it is to end.
-use Rattle.std.proofs.Common.{◌≡◌, ◌∙◌, ◌⊎◌, inl, inr, ℕ, true, false, List, [], ◌∷◌, Option, None, Some, Result, Ok, Err, IsSome, refl, sym, ap, subst}
+use Rattle.std.proofs.Common.{◌≡◌, ◌∙◌, ◌⊎◌, inl, inr, ℕ, true, false, List, [], ◌∷◌, Option, None, Result, Ok, Err, IsSome, refl, sym, ap, subst}
 use Rattle.std.proofs.lemmas.Bool.{false≢true}
-use Rattle.std.specs.Prelude.{IfSome, IsSomeAnd, slice_get}
 use Rattle.rl_io.specs.Outside.{Held, Rose, Reads, Lacks}
 use Rattle.rl_types.specs.declared.status.Status.{Status}
 use Rattle.rl_types.specs.declared.status.Status.TheVariants as statuses
 use Rattle.rl_arrays.specs.declared.arrays.Arrays.{Arrays}
 use Rattle.rl_cread.specs.declared.fault.TableFault.{TableFault}
 use Rattle.rl_cread.specs.declared.fault.TableFault.TheVariants as marks
-use Rattle.rl_cread.specs.Sections.{lines_of, IsFirst, BeginsAt, HasNone, Explains}
+use Rattle.rl_cread.specs.Sections.{Explains}
+use Rattle.rl_cread.proofs.Explained.{explained_once, explained_unread}
 use Rattle.rl_includes.specs.declared.unrolled.Stop.{Stop}
 use Rattle.rl_includes.specs.declared.unrolled.Stop.TheVariants as stop
 use Rattle.rl_replay.specs.declared.script.Line.{Line}
@@ -18,21 +18,17 @@ use Rattle.rl_replay.specs.Sessions.{Names, script_of}
 use Rattle.rl_script.specs.TableNames.{names_in}
 use Rattle.ragel_run.specs.declared.refusal.Refusal.{Refusal}
 use Rattle.ragel_run.specs.declared.refusal.Refusal.TheVariants as refusals
-use Rattle.ragel_run.specs.Files.{is_printed, IsMade, IsSection, IsSpelled, IsMisspelled, Gives, IsFaulty}
+use Rattle.ragel_run.specs.Files.{is_printed, IsSection, IsSpelled, IsMisspelled, Gives, IsFaulty}
 use Rattle.ragel_run.specs.Replay.{Outside, AreWords, AreNoWords, Ends, IsRefused, Due, DueByFile, DueBySource, DueByPrinted, DueByScript, HasNoFault, HasCause, IsStoppedBy, RefusesSource, HasNoSource, HasNoSection, HasNoTables, HasTablesAlone, HasNoLines, ReplaysSource, ReplaysPrinted, status_of, status_by_section, status_by_script}
 use Rattle.ragel_run.specs.Sources.{StopsByItself, IsUnresolved, Stops}
 use Rattle.ragel_run.specs.Told.{IsComplete, EndsWith, Tells, line_of}
-use Rattle.ragel_run.proofs.MadeLaws.{same_made}
+use Rattle.ragel_run.proofs.MadeLaws.{made_names, same_names, names_alike}
 use Rattle.ragel_run.proofs.SourceLaws.{reads_same, lacks_not, spec_once, stops_once, stops_no_source, unfailed}
 
 abbrev End : Type 0
 End = Result (Unit {0}) Refusal
 
--- ---- what was found, with the tables that were made or spelled
-
-abbrev FoundBySource : Held → List ℕ → List ℕ → End → Type 0
-FoundBySource held spec script e =
-    ((s : Stop) × Stops ⊥ held spec s × (e ≡ Err (refusals.Source s))) ⊎ ((a : Arrays) × IsMade held spec a × DueByScript held script (names_in a) e)
+-- ---- what was found, with the tables that were spelled
 
 abbrev FoundByPrinted : Held → List ℕ → List ℕ → End → Type 0
 FoundByPrinted held spec script e =
@@ -41,7 +37,7 @@ FoundByPrinted held spec script e =
     ⊎ ((a : Arrays) × IsSpelled held spec a × DueByScript held script (names_in a) e)
 
 abbrev FoundByFile : Held → List ℕ → List ℕ → End → Type 0
-FoundByFile held spec script e = ((is_printed spec ≡ false) × FoundBySource held spec script e) ⊎ ((is_printed spec ≡ true) × FoundByPrinted held spec script e)
+FoundByFile held spec script e = ((is_printed spec ≡ false) × DueBySource held spec script e) ⊎ ((is_printed spec ≡ true) × FoundByPrinted held spec script e)
 
 abbrev Found : Held → List (List ℕ) → End → Type 0
 Found held words e = (AreNoWords words × (e ≡ Err refusals.Usage)) ⊎ ((spec script : List ℕ) × AreWords words spec script × FoundByFile held spec script e)
@@ -56,20 +52,6 @@ same_fault x y e = cc
 
 no_both : (lines : List Line) (x : ScriptFault) → Ok lines ≡ Err x → ⊥
 no_both lines x e = cc
-
--- a section begins, or none does
-begins_or_none : (text : List ℕ) (at : ℕ) → BeginsAt None (lines_of text) at → HasNone None text → ⊥
-begins_or_none text at begins none = of_line (slice_get (lines_of text) at) begins.first (none at)
-  where
-    of_line : (o : Option (List ℕ)) → IsSomeAnd o (IsFirst None) → IfSome o (λ line. IsFirst None line → ⊥) → ⊥
-    of_line (Some line) p q = q p
-    of_line None p q = p
-
-no_section : (text : List ℕ) (fault : TableFault) → HasNone None text → Explains None text fault → (fault ≡ marks.Memory → ⊥) → fault ≡ marks.NoSection
-no_section text marks.NoSection none e not = refl
-no_section text (marks.BadText line) none e not = absurd (begins_or_none text e.at e.begins none)
-no_section text (marks.BadValue bad) none e not = absurd (begins_or_none text e.at e.begins none)
-no_section text marks.Memory none e not = absurd (not refl)
 
 module _ (held : Held) (told : IsSome held) where
   -- texts under one name are one, and so is what they are as scripts
@@ -91,13 +73,20 @@ module _ (held : Held) (told : IsSome held) where
       absurd (no_both a.0 b.0 (same_script script names a.1.text b.1.text (Ok a.0) (Err b.0) a.1.reads b.1.reads a.1.form b.1.form))
   script_once script names e f (inr (inr a)) (inr (inr b)) = a.2 ∙ sym b.2
 
-  source_once : (spec script : List ℕ) (e f : End) → FoundBySource held spec script e → DueBySource held spec script f → e ≡ f
+  -- by names that make no difference to any script, the same is due
+  due_alike : (script : List ℕ) (names other : Names) → ((text : List ℕ) → script_of names text ≡ script_of other text) → (e : End) → DueByScript held script names e → DueByScript held script other e
+  due_alike script names other alike e (inl a) = inl a
+  due_alike script names other alike e (inr (inl a)) = inr (inl (a.0, record { text = a.1.text; reads = a.1.reads; form = sym (alike a.1.text) ∙ a.1.form }, a.2))
+  due_alike script names other alike e (inr (inr a)) = inr (inr (a.0, record { text = a.1.text; reads = a.1.reads; form = sym (alike a.1.text) ∙ a.1.form }, a.2))
+
+  source_once : (spec script : List ℕ) (e f : End) → DueBySource held spec script e → DueBySource held spec script f → e ≡ f
   source_once spec script e f (inl a) (inl b) = a.2 ∙ ap (λ s. Err (refusals.Source s)) (stops_once held told spec a.0 b.0 a.1 b.1) ∙ sym b.2
-  source_once spec script e f (inl a) (inr b) = absurd (stops_no_source held told spec a.0 b.0 a.1 b.1)
+  source_once spec script e f (inl a) (inr b) = absurd (stops_no_source held told spec a.0 b.1.source a.1 b.1.has)
   source_once spec script e f (inr a) (inl b) = absurd (stops_no_source held told spec b.0 a.1.source b.1 a.1.has)
   source_once spec script e f (inr a) (inr b) =
-      let made = same_made a.1.source b.0 (spec_once held told spec a.1.source b.0 a.1.has.named b.1.named) a.0 a.1.made in
-      script_once script (names_in a.0) e f a.2 (b.2 a.0 made)
+      let same = spec_once held told spec a.1.source b.1.source a.1.has.named b.1.has.named in
+      let named = same_names a.1.source b.1.source same a.0 a.1.named in
+      script_once script b.0 e f (due_alike script a.0 b.0 (names_alike b.1.source a.0 b.0 b.1.tests named b.1.named) e a.2) b.2
 
   printed_once : (spec script : List ℕ) (e f : End) → FoundByPrinted held spec script e → DueByPrinted held spec script f → e ≡ f
   printed_once spec script e f (inl a) (inl b) = a.1 ∙ sym b.1
@@ -105,14 +94,14 @@ module _ (held : Held) (told : IsSome held) where
   printed_once spec script e f (inl a) (inr (inr b)) = absurd (lacks_not held spec b.0 told a.0 b.1)
   printed_once spec script e f (inr (inl a)) (inl b) = absurd (lacks_not held spec a.1.text told b.0 a.1.reads)
   printed_once spec script e f (inr (inl a)) (inr (inl b)) =
-      let none = subst (HasNone None) (reads_same held spec b.0 a.1.text told b.1 a.1.reads) b.2 in
-      a.2 ∙ ap (λ x. Err (refusals.Section x)) (no_section a.1.text a.0 none a.1.explains a.1.not_memory) ∙ sym b.3
+      let explains = subst (λ t. Explains None t b.2) (reads_same held spec b.0 a.1.text told b.1 a.1.reads) b.4 in
+      a.2 ∙ ap (λ x. Err (refusals.Section x)) (explained_once None a.1.text a.0 b.2 a.1.not_memory b.3 a.1.explains explains) ∙ sym b.5
   printed_once spec script e f (inr (inl a)) (inr (inr b)) =
       absurd (a.1.none b.2 (subst (λ t. IsSection t b.2) (reads_same held spec b.0 a.1.text told b.1 a.1.reads) b.3))
   printed_once spec script e f (inr (inr a)) (inl b) = absurd (lacks_not held spec a.1.text told b.0 a.1.reads)
   printed_once spec script e f (inr (inr a)) (inr (inl b)) =
-      let none = subst (HasNone None) (reads_same held spec b.0 a.1.text told b.1 a.1.reads) b.2 in
-      absurd (begins_or_none a.1.text a.1.spells.at a.1.spells.begins none)
+      let explains = subst (λ t. Explains None t b.2) (reads_same held spec b.0 a.1.text told b.1 a.1.reads) b.4 in
+      absurd (explained_unread None a.1.text b.2 a.0 b.3 explains a.1.spells a.1.fits a.1.valid)
   printed_once spec script e f (inr (inr a)) (inr (inr b)) =
       let same = a.1.alone b.2 (subst (λ t. IsSection t b.2) (reads_same held spec b.0 a.1.text told b.1 a.1.reads) b.3) in
       script_once script (names_in a.0) e f a.2 (subst (λ x. DueByScript held script (names_in x) f) (sym same) b.4)
@@ -160,7 +149,7 @@ abbrev OrMemory : Type 0 → End → Type 0
 OrMemory Finds e = Finds ⊎ (status_of e ≡ statuses.Memory)
 
 module _ (held : Held) (spec script : List ℕ) (before now : ℕ) (not : Rose before now → ⊥) where
-  by_no_source : (e : Refusal) → HasNoSource held spec before now e → OrMemory (FoundBySource held spec script (Err e)) (Err e)
+  by_no_source : (e : Refusal) → HasNoSource held spec before now e → OrMemory (DueBySource held spec script (Err e)) (Err e)
   by_no_source (refusals.Source s) p = inl (inl (s, stops_due held spec before now s not p, refl))
   by_no_source refusals.Memory p = inr refl
   by_no_source _ p = absurd p
@@ -186,7 +175,7 @@ module _ (held : Held) (spec script : List ℕ) (before now : ℕ) (not : Rose b
   by_tables e (inr p) = elim (by_no_section e p.1) [ inl found ↦ inl (inr (p.0, found)) | inr memory ↦ inr memory ]
 
   given : (a : Arrays) (e : End) → Gives held spec a → DueByScript held script (names_in a) e → FoundByFile held spec script e
-  given a e (inl g) d = inl (g.0, inr (a, g.1, d))
+  given a e (inl g) d = inl (g.0, inr (names_in a, made_names held spec a g.1, d))
   given a e (inr g) d = inr (g.0, inr (inr (a, g.1, d)))
 
   by_lines : (e : Refusal) → HasTablesAlone held spec script before now e → OrMemory (FoundByFile held spec script (Err e)) (Err e)
@@ -198,7 +187,7 @@ module _ (held : Held) (spec script : List ℕ) (before now : ℕ) (not : Rose b
 
 done_found : (Gains : List ℕ → Type 0) (held : Held) (spec script : List ℕ) → ReplaysSource Gains held spec script ⊎ ReplaysPrinted Gains held spec script → FoundByFile held spec script (Ok tt)
 done_found Gains held spec script (inl r) =
-    inl (r.by_name, inr (r.arrays, record { source = r.source; has = r.has; made = r.made }, inr (inr (r.lines, r.admitted, refl))))
+    inl (r.by_name, inr (r.names, r.has, inr (inr (r.lines, r.admitted, refl))))
 done_found Gains held spec script (inr r) = inr (r.by_name, inr (inr (r.arrays, r.spelled, inr (inr (r.lines, r.admitted, refl)))))
 
 refused_found : (o : Outside) (words : List (List ℕ)) (e : Refusal) → HasNoFault o → IsRefused o words e → OrMemory (Found o.held words (Err e)) (Err e)

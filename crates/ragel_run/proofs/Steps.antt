@@ -3,63 +3,59 @@ use Rattle.std.proofs.Common.{◌≡◌, ◌∙◌, ◌⊎◌, inl, inr, ℕ, Li
 use Rattle.std.specs.Prelude.{IfOk, IfErr}
 use Rattle.rl_io.specs.Outside.{Held, Appends, AppendsPrefix}
 use Rattle.rl_arrays.specs.declared.arrays.Arrays.{Arrays}
+use Rattle.rl_io.specs.declared.outside.SinkFault.{SinkFault}
+use Rattle.rl_io.specs.declared.outside.SinkFault.TheVariants as sink
+use Rattle.rl_types.specs.declared.status.Status.{Status}
 use Rattle.rl_replay.specs.declared.script.Line.{Line}
 use Rattle.rl_script.specs.TableNames.{names_in}
 use Rattle.ragel_run.specs.declared.refusal.Refusal.{Refusal}
 use Rattle.ragel_run.specs.declared.refusal.Refusal.TheVariants as refusals
 use Rattle.ragel_run.specs.Files.{Gives, HasScript}
 use Rattle.ragel_run.specs.Replay.{AreWords, Outside, ReplaysSource, ReplaysPrinted, Replays, HasNoTables, Refuses, IsRefused, Ends, written_by}
-use Rattle.ragel_run.specs.Reads.{ReadsTables, GivesLines, WritesLines}
+use Rattle.ragel_run.specs.Reads.{ReadsTables, GivesLines, GivesDue, WritesLines}
+use Rattle.ragel_run.specs.Told.{Tells, TellsAs, EndsTelling, EndsWith, line_of}
+use Rattle.ragel_run.proofs.MadeLaws.{made_names}
 use Rattle.ragel_run.proofs.Prescribed.{lines_prescribed}
 
--- ---- the words name two files
-
--- the first gives no tables
-pub no_tables : (held : Held) (words : List (List ℕ)) (spec script : List ℕ) (before now : ℕ) (e : Refusal) →
-    AreWords words spec script → ReadsTables held spec before now (Err e) → Refuses held words before now e
-no_tables held words spec script before now e w p = inr (spec, script, w, inl p)
+-- ---- two files
 
 -- the lines that tables write are due
 replays_by : (held : Held) (spec script : List ℕ) (a : Arrays) (lines : List Line) (items : List ℕ) → Gives held spec a → HasScript held script (names_in a) lines → items ≡ written_by a lines →
     ReplaysSource (λ due. items ≡ due) held spec script ⊎ ReplaysPrinted (λ due. items ≡ due) held spec script
 replays_by held spec script a lines items (inl (e, m)) h same = inl (record {
   by_name = e;
-  source = m.source;
-  has = m.has;
-  arrays = a;
-  made = m.made;
+  names = names_in a;
+  has = made_names held spec a m;
   lines = lines;
   admitted = h;
   gains = λ tests honest. same ∙ lines_prescribed m.source a m.made lines tests honest;
 })
 replays_by held spec script a lines items (inr (e, s)) h same = inr (record { by_name = e; arrays = a; spelled = s; lines = lines; admitted = h; gains = same })
 
-module _ (held mid_held : Held) (words : List (List ℕ)) (spec script : List ℕ) (a : Arrays) (before mid now : ℕ) (same : mid_held ≡ held) (w : AreWords words spec script)
-    (given : ReadsTables held spec before mid (Ok a)) where
-  -- the same by what stood before the tables were read
-  from_start : (r : Result (List ℕ) Refusal) → GivesLines mid_held script a mid now r → GivesLines held script a before now r
-  from_start r p = subst (λ n. GivesLines held script a n now r) given.1 (subst (λ x. GivesLines x script a mid now r) same p)
+-- the same by what stood before the tables were read
+pub lines_given : (held mid_held : Held) (spec script : List ℕ) (a : Arrays) (before mid now : ℕ) (r : Result (List ℕ) Refusal) → mid_held ≡ held →
+    ReadsTables held spec before mid (Ok a) →
+    GivesLines mid_held script a mid now r → GivesDue held spec script before now r
+lines_given held mid_held spec script a before mid now r same given p =
+    given_of r (subst (λ n. GivesLines held script a n now r) given.1 (subst (λ x. GivesLines x script a mid now r) same p))
+  where
+    given_of : (r : Result (List ℕ) Refusal) → GivesLines held script a before now r → GivesDue held spec script before now r
+    given_of (Ok items) p = (replays_by held spec script a p.0 items given.0 p.1 p.2, p.3)
+    given_of (Err e) p = inr (a, given.0, p)
 
-  due : (r : Result (List ℕ) Refusal) → GivesLines held script a before now r → IfOk r (λ items. Replays (λ lines. items ≡ lines) held words)
-  due (Ok items) p = (spec, script, w, replays_by held spec script a p.0 items given.0 p.1 p.2)
-  due (Err e) p = tt
+-- ---- the words name them
+module _ (held : Held) (words : List (List ℕ)) (spec script : List ℕ) (before now : ℕ) (w : AreWords words spec script) where
+  pub lines_due : (r : Result (List ℕ) Refusal) → GivesDue held spec script before now r → IfOk r (λ items. Replays (λ lines. items ≡ lines) held words)
+  lines_due (Ok items) p = (spec, script, w, p.0)
+  lines_due (Err e) p = tt
 
-  quiet : (r : Result (List ℕ) Refusal) → GivesLines held script a before now r → IfOk r (λ items. now ≡ before)
-  quiet (Ok items) p = p.3
-  quiet (Err e) p = tt
+  pub lines_quiet : (r : Result (List ℕ) Refusal) → GivesDue held spec script before now r → IfOk r (λ items. now ≡ before)
+  lines_quiet (Ok items) p = p.1
+  lines_quiet (Err e) p = tt
 
-  refused_so : (r : Result (List ℕ) Refusal) → GivesLines held script a before now r → IfErr r (Refuses held words before now)
-  refused_so (Ok items) p = tt
-  refused_so (Err e) p = inr (spec, script, w, inr (a, given.0, p))
-
-  pub lines_due : (r : Result (List ℕ) Refusal) → GivesLines mid_held script a mid now r → IfOk r (λ items. Replays (λ lines. items ≡ lines) held words)
-  lines_due r p = due r (from_start r p)
-
-  pub lines_quiet : (r : Result (List ℕ) Refusal) → GivesLines mid_held script a mid now r → IfOk r (λ items. now ≡ before)
-  lines_quiet r p = quiet r (from_start r p)
-
-  pub lines_refused : (r : Result (List ℕ) Refusal) → GivesLines mid_held script a mid now r → IfErr r (Refuses held words before now)
-  lines_refused r p = refused_so r (from_start r p)
+  pub lines_refused : (r : Result (List ℕ) Refusal) → GivesDue held spec script before now r → IfErr r (Refuses held words before now)
+  lines_refused (Ok items) p = tt
+  lines_refused (Err e) p = inr (spec, script, w, p)
 
 -- ---- the output
 
@@ -80,10 +76,8 @@ gains_by : (Gains : List ℕ → Type 0) (held : Held) (spec script items : List
     ReplaysSource Gains held spec script ⊎ ReplaysPrinted Gains held spec script
 gains_by Gains held spec script items (inl r) g = inl (record {
   by_name = r.by_name;
-  source = r.source;
+  names = r.names;
   has = r.has;
-  arrays = r.arrays;
-  made = r.made;
   lines = r.lines;
   admitted = r.admitted;
   gains = λ tests honest. subst Gains (r.gains tests honest) g;
@@ -115,3 +109,15 @@ written o words items (Err _) d s p = absurd p
 pub of_bytes : (bytes items : List ℕ) (old new : Option (List ℕ)) (before now : ℕ) (r : Result (Unit {0}) Refusal) → bytes ≡ items →
     WritesLines bytes old new before now r → WritesLines items old new before now r
 of_bytes bytes items old new before now r same p = subst (λ x. WritesLines x old new before now r) same p
+
+-- what the error output answered tells what it gained
+tells_by : {T : Type 0} (old new : Option (List ℕ)) (before now : ℕ) (line : List ℕ) (told : Result T SinkFault) →
+    TellsAs old new before now line told → Tells old new before now line
+tells_by old new before now line (Ok done) p = inl p
+tells_by old new before now line (Err sink.Failed) p = inr (inl p)
+tells_by old new before now line (Err sink.Memory) p = inr (inr p)
+
+pub ends_with : {T : Type 0} (o : Outside) (words : List (List ℕ)) (old new : Option (List ℕ)) (before now : ℕ) (status : Status) (told : Result T SinkFault) →
+    EndsTelling o words old new before now status told →
+    EndsWith o words old new before now status
+ends_with o words old new before now status told (end, ends, same, tells) = (end, ends, same, tells_by old new before now (line_of words end) told tells)

@@ -21,7 +21,7 @@ use Rattle.rl_resolve.specs.declared.answer.ResolveFault.TheVariants as fault
 use Rattle.rl_resolve.specs.Refusals.{file_name}
 use Rattle.ragel_run.specs.Files.{IsMade, IsSpelled, Gives, HasScript}
 use Rattle.ragel_run.specs.Sources.{HasTrees, HasSpecs, IsUnread, IsToldAs}
-use Rattle.ragel_run.specs.Replay.{HasNoSource, HasNoSection, HasNoTables, HasNoLines, written_by}
+use Rattle.ragel_run.specs.Replay.{ReplaysSource, ReplaysPrinted, HasNoSource, HasNoSection, HasNoTables, HasTablesAlone, HasNoLines, written_by}
 use Rattle.ragel_run.specs.declared.refusal.Refusal.{Refusal}
 use Rattle.ragel_run.specs.declared.refusal.Refusal.TheVariants as refusals
 use Rattle.ragel_run.specs.declared.source.Unread.{Unread}
@@ -103,6 +103,12 @@ ReadsScript held name names before now (Err refusal) = HasNoLines held name name
 abbrev pub GivesLines : Held → List ℕ → Arrays → ℕ → ℕ → Result (List ℕ) Refusal → Type 0
 GivesLines held script a before now (Ok items) = (lines : List Line) × HasScript held script (names_in a) lines × (items ≡ written_by a lines) × (now ≡ before)
 GivesLines held script a before now (Err refusal) = HasNoLines held script (names_in a) before now refusal
+
+-- the lines that are due for two files, or why none are
+abbrev pub GivesDue : Held → List ℕ → List ℕ → ℕ → ℕ → Result (List ℕ) Refusal → Type 0
+GivesDue held spec script before now (Ok items) =
+    (ReplaysSource (λ due. items ≡ due) held spec script ⊎ ReplaysPrinted (λ due. items ≡ due) held spec script) × (now ≡ before)
+GivesDue held spec script before now (Err refusal) = HasNoTables held spec before now refusal ⊎ HasTablesAlone held spec script before now refusal
 
 -- ---- the output
 

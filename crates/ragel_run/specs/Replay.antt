@@ -1,5 +1,5 @@
 -- What a replay writes, and when it ends how (this profile).
-use Rattle.std.specs.Prelude.{◌≡◌, ◌⊎◌, ℕ, true, false, IsSome, List, [], ◌∷◌, map, Option, None, Result, Ok, Err}
+use Rattle.std.specs.Prelude.{◌≡◌, ◌≢◌, ◌⊎◌, ℕ, true, false, IsSome, List, [], ◌∷◌, map, Option, None, Result, Ok, Err}
 use Rattle.rl_types.specs.declared.faults.Fault.{Fault}
 use Rattle.rl_types.specs.declared.faults.Limit.{Limit}
 use Rattle.rl_types.specs.declared.status.Status.{Status}
@@ -7,7 +7,7 @@ use Rattle.rl_types.specs.declared.status.Status.TheVariants as statuses
 use Rattle.rl_io.specs.Outside.{Held, Rose, Reads, Lacks, Appends, AppendsPrefix}
 use Rattle.rl_arrays.specs.declared.arrays.Arrays.{Arrays}
 use Rattle.rl_arrays.specs.TableMachine.{machine}
-use Rattle.rl_cread.specs.Sections.{HasNone}
+use Rattle.rl_cread.specs.Sections.{Explains}
 use Rattle.rl_cread.specs.declared.fault.TableFault.{TableFault}
 use Rattle.rl_cread.specs.declared.fault.TableFault.TheVariants as marks
 use Rattle.rl_model.specs.declared.spec.ActionDef.{ActionDef}
@@ -24,8 +24,8 @@ use Rattle.rl_playback.specs.Defaults.{default_settings}
 use Rattle.rl_includes.specs.declared.unrolled.Stop.{Stop}
 use Rattle.rl_includes.specs.declared.unrolled.Stop.TheVariants as stop
 use Rattle.rl_make.specs.Writes.{entry_names}
-use Rattle.ragel_run.specs.Files.{is_printed, IsMadeFor, IsSection, IsSpelled, IsMisspelled, Gives, HasScript, IsFaulty}
-use Rattle.ragel_run.specs.Sources.{HasSource, IsUnresolved, StopsByItself, Stops}
+use Rattle.ragel_run.specs.Files.{is_printed, HasNames, IsSection, IsSpelled, IsMisspelled, Gives, HasScript, IsFaulty}
+use Rattle.ragel_run.specs.Sources.{IsUnresolved, StopsByItself, Stops}
 use Rattle.ragel_run.specs.declared.refusal.Refusal.{Refusal}
 use Rattle.ragel_run.specs.declared.refusal.Refusal.TheVariants as refusals
 
@@ -77,18 +77,15 @@ prescribed spec tests lines = written (names_of spec) (tree_machine (specificati
 abbrev pub written_by : Arrays → List Line → List ℕ
 written_by a lines = written (names_in a) (machine a) default_settings lines
 
--- the output gained by what the expressions of a source prescribe for a script, whatever the honest tests. The script has
--- no fault where its names are those of tables that are made for the source: an action that stands in no list has no name
--- there
+-- the output gained by what the expressions of a source prescribe for a script, whatever the honest tests, of which there are
+-- some. The script has no fault by the names of the source: an action that stands in no list has none
 pub record ReplaysSource (Gains : List ℕ → Type 0) (held : Held) (spec script : List ℕ) : Type 0 where
   pub by_name : is_printed spec ≡ false
-  pub source : Spec
-  pub has : HasSource held spec source
-  pub arrays : Arrays
-  pub made : IsMadeFor source arrays
+  pub names : Names
+  pub has : HasNames held spec names
   pub lines : List Line
-  pub admitted : HasScript held script (names_in arrays) lines
-  pub gains : (tests : TestsOf (specification_of source)) → AreTestsHonest (specification_of source) tests → Gains (prescribed source tests lines)
+  pub admitted : HasScript held script names lines
+  pub gains : (tests : TestsOf (specification_of has.source)) → AreTestsHonest (specification_of has.source) tests → Gains (prescribed has.source tests lines)
 
 -- the output gained by what the arrays write that a printed file spells
 pub record ReplaysPrinted (Gains : List ℕ → Type 0) (held : Held) (spec script : List ℕ) : Type 0 where
@@ -186,17 +183,18 @@ DueByScript held script names end =
     ⊎ ((lines : List Line) × HasScript held script names lines × (end ≡ Ok tt))
 
 -- how a replay of this source, and then of this script, is to end where the store fails at no file. The script is judged by
--- the names of tables that are made for the source, whichever they are
+-- the names of the source
 abbrev pub DueBySource : Held → List ℕ → List ℕ → Result (Unit {0}) Refusal → Type 0
 DueBySource held spec script end =
     ((s : Stop) × Stops ⊥ held spec s × (end ≡ Err (refusals.Source s)))
-    ⊎ ((source : Spec) × HasSource held spec source × ((a : Arrays) → IsMadeFor source a → DueByScript held script (names_in a) end))
+    ⊎ ((names : Names) × HasNames held spec names × DueByScript held script names end)
 
--- the same of this printed file. Which line or element is told of a section that is not right is not among these
+-- the same of this printed file: it has no section, or the first bad line or the first wrong element of the section is told
 abbrev pub DueByPrinted : Held → List ℕ → List ℕ → Result (Unit {0}) Refusal → Type 0
 DueByPrinted held spec script end =
     (Lacks held spec × (end ≡ Err refusals.NoPrinted))
-    ⊎ ((text : List ℕ) × Reads held spec text × HasNone None text × (end ≡ Err (refusals.Section marks.NoSection)))
+    ⊎ ((text : List ℕ) × Reads held spec text × (fault : TableFault) × (fault ≢ marks.Memory) × Explains None text fault
+    × (end ≡ Err (refusals.Section fault)))
     ⊎ ((text : List ℕ) × Reads held spec text × (a : Arrays) × IsSection text a × DueByScript held script (names_in a) end)
 
 -- the same of the file that the first word names

@@ -8,6 +8,8 @@ use Rattle.rl_types.specs.declared.numbers.Place.{Place}
 use Rattle.rl_types.specs.declared.status.Status.{Status}
 use Rattle.rl_types.specs.declared.status.Status.TheVariants as statuses
 use Rattle.rl_io.specs.Outside.{Rose, Appends, AppendsPrefix}
+use Rattle.rl_io.specs.declared.outside.SinkFault.{SinkFault}
+use Rattle.rl_io.specs.declared.outside.SinkFault.TheVariants as sink
 use Rattle.rl_arrays.specs.Section.{word}
 use Rattle.rl_cread.specs.declared.fault.TableFault.{TableFault}
 use Rattle.rl_cread.specs.declared.fault.TableFault.TheVariants as marks
@@ -114,6 +116,18 @@ line_of words (Err refusal) = told_refusal (word_at words 0) (word_at words 1) r
 -- the error output gains the line; where it failed it gains a prefix, where memory was wanting nothing
 abbrev pub Tells : Option (List ℕ) → Option (List ℕ) → ℕ → ℕ → List ℕ → Type 0
 Tells old new before now line = Appends old new line ⊎ (Rose before now × AppendsPrefix old new line) ⊎ (new ≡ old)
+
+-- the same, by what the error output answered
+abbrev pub TellsAs : {T : Type 0} → Option (List ℕ) → Option (List ℕ) → ℕ → ℕ → List ℕ → Result T SinkFault → Type 0
+TellsAs old new before now line (Ok done) = Appends old new line
+TellsAs old new before now line (Err sink.Failed) = Rose before now × AppendsPrefix old new line
+TellsAs old new before now line (Err sink.Memory) = new ≡ old
+
+-- there is one way to end, with its status, and what the error output answered to its line
+abbrev pub EndsTelling : {T : Type 0} → Outside → List (List ℕ) → Option (List ℕ) → Option (List ℕ) → ℕ → ℕ → Status
+    → Result T SinkFault → Type 0
+EndsTelling o words old new before now status told =
+    (end : Result (Unit {0}) Refusal) × Ends o words end × (status ≡ status_of end) × TellsAs old new before now (line_of words end) told
 
 -- there is one way to end, with its status, and the error output gains its line
 abbrev pub EndsWith : Outside → List (List ℕ) → Option (List ℕ) → Option (List ℕ) → ℕ → ℕ → Status → Type 0

@@ -51,7 +51,7 @@ fn replay_here(rt: &HostRuntime) -> Status {
         ),
         Err(refusal) => {
             let end = Err(refusal);
-            tell(rt.alloc(), &[], &end, &mut err);
+            let _ = tell(rt.alloc(), &[], &end, &mut err);
             status_for(&end)
         }
     }

@@ -1,14 +1,14 @@
 // A replay of a script on a source, or on printed tables.
 ghost use Rattle.std.specs.Prelude.{◌≡◌, IfOk, IfErr, MatchOption};
 ghost use Rattle.ragel_run.specs.Replay.{AreWords, AreNoWords, Ends, HasCause, Refuses, Replays, outside as outside_of};
-ghost use Rattle.ragel_run.specs.Reads.{GivesLines};
-ghost use Rattle.ragel_run.specs.Told.{EndsWith, IsComplete};
+ghost use Rattle.ragel_run.specs.Reads.{GivesDue, GivesLines};
+ghost use Rattle.ragel_run.specs.Told.{EndsWith, EndsTelling, IsComplete};
 
 use crate::outside::{script_under, write_lines};
 use crate::refusal::Refusal;
 use crate::tables::read_machine;
 use crate::told::{status_for, tell};
-use rl_io::{Sink, Source, Store};
+use rl_io::{Sink, SinkFault, Source, Store};
 use rl_playback::lines_of_script;
 use rl_tables::Tables;
 use rl_types::{List, Status, Text};
@@ -44,6 +44,23 @@ fn play<S: Store>(
     }
 }
 
+// The lines that are due for the files under two names.
+fn lines_for<S: Store>(
+    alloc: Global,
+    spec_name: &str,
+    script_name: &str,
+    store: &mut S,
+) -> Result<List<u8>, Refusal>
+    ensures gives { GivesDue (S.held store.old) spec_name.now script_name.now (S.faults store.old) (S.faults store.new) result }
+    ensures same { S.held store.new ≡ S.held store.old }
+{
+    let tables = match read_machine(alloc, spec_name, store) {
+        Ok(tables) => tables,
+        Err(refusal) => return Err(refusal),
+    };
+    play(alloc, &tables, script_name, store)
+}
+
 // The lines that are due for these words.
 fn due_lines<S: Store>(alloc: Global, words: &[Text], store: &mut S) -> Result<List<u8>, Refusal>
     ensures due { IfOk result (λ items. Replays (λ lines. items ≡ lines) (S.held store.old) words.now) }
@@ -54,11 +71,7 @@ fn due_lines<S: Store>(alloc: Global, words: &[Text], store: &mut S) -> Result<L
     let Some((spec_name, script_name)) = words_of(words) else {
         return Err(Refusal::Usage);
     };
-    let tables = match read_machine(alloc, spec_name, store) {
-        Ok(tables) => tables,
-        Err(refusal) => return Err(refusal),
-    };
-    play(alloc, &tables, script_name, store)
+    lines_for(alloc, spec_name, script_name, store)
 }
 
 // The replay up to its end.
@@ -75,6 +88,23 @@ fn run<S: Store, O: Sink>(
         Ok(lines) => write_lines(lines.as_slice(), out),
         Err(refusal) => Err(refusal),
     }
+}
+
+// The whole replay, and what the error output answered to the line of its end.
+fn replay_telling<S: Store, O: Sink, E: Sink>(
+    alloc: Global,
+    words: &[Text],
+    store: &mut S,
+    out: &mut O,
+    err: &mut E,
+) -> (Status, Result<(), SinkFault>)
+    ensures ends { EndsTelling (outside_of (S.held store.old) (O.written out.old) (O.written out.new) (S.faults store.old) (S.faults store.new) (O.faults out.old) (O.faults out.new)) words.now
+        (E.written err.old) (E.written err.new) (E.faults err.old) (E.faults err.new) result.0 result.1 }
+    ensures same_store { S.held store.new ≡ S.held store.old }
+{
+    let end = run(alloc, words, store, out);
+    let told = tell(alloc, words, &end, err);
+    (status_for(&end), told)
 }
 
 /// All that the program `ragel-run` does: it replays a script, prints the lines of its sessions on `out`, and answers with
@@ -115,7 +145,6 @@ pub fn replay<S: Store, I: Source, O: Sink, E: Sink>(
     ensures same_store { S.held store.new ≡ S.held store.old }
     ensures same_input { (I.left input.new ≡ I.left input.old) × (I.faults input.new ≡ I.faults input.old) }
 {
-    let end = run(alloc, words, store, out);
-    tell(alloc, words, &end, err);
-    status_for(&end)
+    let ended = replay_telling(alloc, words, store, out, err);
+    ended.0
 }

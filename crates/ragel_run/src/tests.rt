@@ -440,14 +440,11 @@ const NO_INSTANCE: Row = Row {
 
 const NOT_BUILT: Row = Row {
     files: &[
-        (
-            "m.rl",
-            "%%{ machine m; action x { } main := 'a' when x; }%%",
-        ),
+        ("m.rl", "%%{ machine m; main := |* 'a'; *|; }%%"),
         ("t", "open s\npiece s \"ab\"\nend s\n"),
     ],
     status: Status::Source,
-    err: "m.rl:1:41: F20 not yet\n",
+    err: "m.rl:1:24: F20 not yet\n",
     ..EMPTY
 };
 

@@ -2,14 +2,14 @@
 ghost use Rattle.std.specs.Prelude.{◌≡◌, ◌++◌, IfOk, OnOk, codes, decimal};
 ghost use Rattle.rl_arrays.specs.Section.{word};
 ghost use Rattle.ragel_run.specs.Replay.{status_by, status_by_section, status_by_script, status_of};
-ghost use Rattle.ragel_run.specs.Told.{Tells, line_of, told_at, told_by, told_in_line, told_refusal, told_script, told_section, word_at as at_place, words_of_fault, words_of_limit};
+ghost use Rattle.ragel_run.specs.Told.{TellsAs, line_of, told_at, told_by, told_in_line, told_refusal, told_script, told_section, word_at as at_place, words_of_fault, words_of_limit};
 
 use crate::refusal::Refusal;
 use itoa::Buffer;
 use rl_arrays::{ArrayName, BadValue};
 use rl_cread::TableFault;
 use rl_includes::Stop;
-use rl_io::Sink;
+use rl_io::{Sink, SinkFault};
 use rl_replay::ScriptFault;
 use rl_types::{FaultKind, LimitKind, Memory, Place, Status, Text};
 use std::alloc::{AllocError, Global};
@@ -291,11 +291,17 @@ fn line_for(alloc: Global, words: &[Text], end: &Result<(), Refusal>) -> Result<
     }
 }
 
-// Tells an end, where there is something to tell.
-pub fn tell<E: Sink>(alloc: Global, words: &[Text], end: &Result<(), Refusal>, err: &mut E)
-    ensures { Tells (E.written err.old) (E.written err.new) (E.faults err.old) (E.faults err.new) (line_of words.now end.now) }
+// Tells an end, where there is something to tell, and answers what became of the line.
+pub fn tell<E: Sink>(
+    alloc: Global,
+    words: &[Text],
+    end: &Result<(), Refusal>,
+    err: &mut E,
+) -> Result<(), SinkFault>
+    ensures { TellsAs (E.written err.old) (E.written err.new) (E.faults err.old) (E.faults err.new) (line_of words.now end.now) result }
 {
-    if let Ok(line) = line_for(alloc, words, end) {
-        let _ = err.write_all(&line);
+    match line_for(alloc, words, end) {
+        Ok(line) => err.write_all(&line),
+        Err(_) => Err(SinkFault::Memory),
     }
 }

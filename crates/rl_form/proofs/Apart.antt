@@ -75,10 +75,20 @@ module _ {X : Type 0} (f : X → List ℕ) (names : List (List ℕ)) (xs : List 
   cut : i < length xs → x ≡ get_or xs i x → map f (drop i xs) ≡ f x ∷ map f (drop (i + 1) xs)
   cut less is = ap (map f) (drop-cons xs i x less ∙ (ap (λ y. y ∷ drop (suc i) xs) (sym is) ∙ ap (λ n. x ∷ drop n xs) (sym (add-one i))))
 
+  -- where all are apart, what is put was not there
+  pub is_put : (b : Bool) → i < length xs → x ≡ get_or xs i x → (b ≡ false → In (f x) names) → names ++ map f (drop i xs) ≡ map f xs → AreDifferent (map f xs) → b ≡ true
+  is_put b less is known same apart = elim (cases_Bool b) [
+    | inl put ↦ put
+    | inr there ↦ absurd (not_apart names (f x) (map f (drop (i + 1) xs)) (known there) (subst AreDifferent (sym same ∙ ap (λ z. names ++ z) (cut less is)) apart))
+  ]
+
+  pub follows : (more : List (List ℕ)) → i < length xs → x ≡ get_or xs i x → more ≡ names ++ f x ∷ [] → names ++ map f (drop i xs) ≡ map f xs → more ++ map f (drop (i + 1) xs) ≡ map f xs
+  follows more less is noted same = ap (λ z. z ++ map f (drop (i + 1) xs)) noted ∙ (append_assoc names (f x ∷ []) (map f (drop (i + 1) xs)) ∙ (sym (ap (λ z. names ++ z) (cut less is)) ∙ same))
+
   pub goes_on : (more : List (List ℕ)) → i < length xs → x ≡ get_or xs i x → (In (f x) names → ⊥) → more ≡ names ++ f x ∷ [] → AreDifferent names → names ++ map f (drop i xs) ≡ map f xs → AreDifferent more × (more ++ map f (drop (i + 1) xs) ≡ map f xs)
   goes_on more less is new noted apart same = (
     subst AreDifferent (sym noted) (apart_push names (f x) new apart),
-    ap (λ z. z ++ map f (drop (i + 1) xs)) noted ∙ (append_assoc names (f x ∷ []) (map f (drop (i + 1) xs)) ∙ (sym (ap (λ z. names ++ z) (cut less is)) ∙ same)),
+    follows more less is noted same,
   )
 
   pub ends : i < length xs → x ≡ get_or xs i x → In (f x) names → names ++ map f (drop i xs) ≡ map f xs → IsTrue false ↔ AreDifferent (map f xs)

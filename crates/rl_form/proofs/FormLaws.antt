@@ -1,5 +1,5 @@
 -- A Spec has its form exactly where its parts are as is asked.
-use Rattle.std.proofs.Common.{◌≡◌, ℕ, zero, suc, ◌≤◌, List, [], ◌∷◌, ◌++◌, length, map, Bool, Some, Result, Ok, Err, refl, sym, ap, ◌∙◌, subst, arith}
+use Rattle.std.proofs.Common.{◌≡◌, ℕ, ◌≤◌, List, [], ◌++◌, length, map, Bool, Some, Result, Ok, Err, sym, arith}
 use Rattle.std.specs.Prelude.{◌↔◌, IsTrue, IsSome, IfSome, IfOk, slice_get, All}
 use Rattle.std.specs.List.{flat_map}
 use Rattle.rl_types.specs.declared.numbers.ActionId.{ActionId}
@@ -18,12 +18,14 @@ use Rattle.rl_model.specs.declared.spec.Write.{Write}
 use Rattle.rl_model.specs.declared.spec.Spec.{Spec}
 use Rattle.rl_model.specs.Specification as model
 use Rattle.rl_model.specs.Specification.{Root, Plain, Scanner, Action, specification_of, root_of, roots_of, entry_of, action_of, numbered}
-use Rattle.rl_model.specs.Counts.{root_size, root_depth, trees_of, token_actions, actions_in, stamps_in}
+use Rattle.rl_model.specs.Counts.{root_size, root_depth, trees_of, pattern_trees, token_actions, actions_in, turn_actions_in, stamps_in}
 use Rattle.rl_model.specs.WellFormed.{IsWellFormed, IsNumber, HasNoStatement, HasPlaces, HasPatterns, all_trees, all_statements, all_places, pattern_places, quiet_actions, outer_statements}
 use Rattle.rl_form.specs.declared.scope.Scope.{Scope}
 use Rattle.rl_form.specs.Form.{IsPlain, HasForm}
-use Rattle.rl_form.specs.Parts.{IsRoot, IsEntry, IsAction, IsWrite, IsCondition, HasFile, HasParts, scope_of}
-use Rattle.rl_form.proofs.Lists.{Each, each_append, each_front, each_behind, each_more, each_map, each_mapped, each_flat, each_of_flat, each_flat_flat, each_of_flat_flat, each_at, each_from, each_empty, all, each}
+use Rattle.rl_model.proofs.CodeLaws.{IsStatement, spec_statements}
+use Rattle.rl_form.specs.Parts.{IsRoot, IsQuiet, IsQuietRoot, IsEntry, IsAction, IsWrite, IsCondition, HasFile, HasParts, scope_of}
+use Rattle.rl_form.proofs.Lists.{Each, each_append, each_front, each_behind, each_more, each_map, each_mapped, each_flat, each_of_flat, each_flat_flat, each_of_flat_flat, each_at, each_from, all, each}
+use Rattle.rl_form.proofs.QuietLaws.{quiet_number, number_quiet, turns, quiet_turns}
 use Rattle.rl_form.proofs.TreeLaws.{IsKeySet, IsFewRanges, says, sound}
 
 -- ---- entries
@@ -78,21 +80,19 @@ entry_places scope n places (R.Scanner ps) h p = absurd h
 
 -- ---- statements
 
-quiet_actions_of : (actions : List ActionDef) → Each (λ (a : ActionDef). a.statements ≡ []) actions → flat_map (λ (a : Action). a.statements) (map action_of actions) ≡ []
-quiet_actions_of [] h = refl
-quiet_actions_of (a ∷ actions) h = ap (λ z. z ++ flat_map (λ (a : Action). a.statements) (map action_of actions)) h.0 ∙ quiet_actions_of actions h.1
+-- an expression is no scanner, and has no pattern
+no_patterns : (P : ℕ → Type 0) (x : Root) → IsPlain x → Each (λ t. Each P (actions_in t)) (pattern_trees x)
+no_patterns P (Plain t) h = tt
+no_patterns P (Scanner ps) h = absurd h
 
-quiet_at : (actions : List ActionDef) (i : ℕ) → Each (λ (a : ActionDef). a.statements ≡ []) actions → IfSome (slice_get (map action_of actions) i) (λ x. x.statements ≡ [])
-quiet_at [] i h = tt
-quiet_at (a ∷ actions) zero h = h.0
-quiet_at (a ∷ actions) (suc i) h = quiet_at actions i h.1
+-- its to-state and from-state actions
+root_turns : (actions : List ActionDef) (x : Root) → IsQuietRoot actions x → Each (λ t. Each (HasNoStatement (map action_of actions)) (turn_actions_in t)) (trees_of x)
+root_turns actions (Plain t) h = (turns actions t h, tt)
+root_turns actions (Scanner ps) h = absurd h
 
-quiet_number : (actions : List ActionDef) (n : ℕ) → Each (λ (a : ActionDef). a.statements ≡ []) actions → HasNoStatement (map action_of actions) n
-quiet_number actions zero h = tt
-quiet_number actions (suc i) h = quiet_at actions i h
-
-few_statements : (a : ActionDef) → a.statements ≡ [] → outer_statements a.statements ≤ 4
-few_statements a e = subst (λ z. outer_statements z ≤ 4) (sym e) (omega arith)
+turns_root : (actions : List ActionDef) (x : Root) → IsPlain x → Each (λ t. Each (HasNoStatement (map action_of actions)) (turn_actions_in t)) (trees_of x) → IsQuietRoot actions x
+turns_root actions (Plain t) plain h = quiet_turns actions t h.0
+turns_root actions (Scanner ps) plain h = absurd plain
 
 -- ---- from the parts to the Spec
 
@@ -133,19 +133,31 @@ module _ (spec : Spec) where
     from_roots : (P : Root → Type 0) → ((x : Root) → SaysRoot scope x → P x) → Each P (roots_of (specification_of spec))
     from_roots P f = each_more (SaysRoot scope) P (roots_of (specification_of spec)) f roots
 
-    quiet_ones : Each (λ (a : ActionDef). a.statements ≡ []) spec.actions
-    quiet_ones = of_actions (λ a. a.statements ≡ []) (λ a h. h.quiet)
+    -- what holds of all statements that are read, of those of the Spec
+    of_statements : (P : Statement → Type 0) → ((s : Statement) → IsStatement (length spec.entries) s → P s) → All P (all_statements (specification_of spec))
+    of_statements P f =
+        let own : Each (λ (a : ActionDef). Each P a.statements) spec.actions =
+        each_more (λ (a : ActionDef). Each (IsStatement (length spec.entries)) a.statements) (λ (a : ActionDef). Each P a.statements) spec.actions
+        (λ a h. each_more (IsStatement (length spec.entries)) P a.statements f h) (spec_statements spec parts.codes) in
+        all P (all_statements (specification_of spec)) (each_flat P (λ (a : Action). a.statements) (map action_of spec.actions) (each_map (λ (a : Action). Each P a.statements) action_of spec.actions own))
 
-    no_statements : all_statements (specification_of spec) ≡ []
-    no_statements = quiet_actions_of spec.actions quiet_ones
+    abbrev Quiet : ℕ → Type 0
+    Quiet = HasNoStatement (map action_of spec.actions)
 
-    -- what is asked of statements, of which there are none
-    of_statements : (P : Statement → Type 0) → All P (all_statements (specification_of spec))
-    of_statements P = subst (All P) (sym no_statements) (all P [] tt)
+    quiet_conditions : Each Quiet (map (λ (a : ActionId). a.0) spec.conds)
+    quiet_conditions = each_map Quiet (λ (a : ActionId). a.0) spec.conds
+        (each_more (λ (a : ActionId). IsQuiet spec.actions a.0) (λ (a : ActionId). Quiet a.0) spec.conds (λ a h. quiet_number spec.actions a.0 h) (each (λ (a : ActionId). IsQuiet spec.actions a.0) spec.conds parts.quiet.conditions))
 
-    of_numbers : (xs : List ℕ) → Each (HasNoStatement (map action_of spec.actions)) xs
-    of_numbers [] = tt
-    of_numbers (x ∷ xs) = (quiet_number spec.actions x quiet_ones, of_numbers xs)
+    quiet_in_turns : Each Quiet (flat_map turn_actions_in (all_trees (specification_of spec)))
+    quiet_in_turns = of_trees Quiet turn_actions_in (of_roots (λ x. Each (λ t. Each Quiet (turn_actions_in t)) (trees_of x))
+        (each_more (λ (e : rust_entry.Entry). IsQuietRoot spec.actions (root_of e.root)) (λ (e : rust_entry.Entry). Each (λ t. Each Quiet (turn_actions_in t)) (trees_of (root_of e.root))) spec.entries
+        (λ e h. root_turns spec.actions (root_of e.root) h) (each (λ (e : rust_entry.Entry). IsQuietRoot spec.actions (root_of e.root)) spec.entries parts.quiet.turns)))
+
+    quiet_in_patterns : Each Quiet (flat_map actions_in (flat_map pattern_trees (roots_of (specification_of spec))))
+    quiet_in_patterns = each_flat_flat Quiet actions_in pattern_trees (roots_of (specification_of spec)) (from_roots (λ x. Each (λ t. Each Quiet (actions_in t)) (pattern_trees x)) (λ x h. no_patterns Quiet x h.plain))
+
+    all_quiet : Each Quiet (quiet_actions (specification_of spec))
+    all_quiet = each_append Quiet (map (λ (a : ActionId). a.0) spec.conds ++ flat_map turn_actions_in (all_trees (specification_of spec))) (flat_map actions_in (flat_map pattern_trees (roots_of (specification_of spec)))) (each_append Quiet (map (λ (a : ActionId). a.0) spec.conds) (flat_map turn_actions_in (all_trees (specification_of spec))) quiet_conditions quiet_in_turns) quiet_in_patterns
 
     trees : {X : Type 0} (P : X → Type 0) (f : Node → List X) → ((x : Root) → SaysRoot scope x → Each (λ t. Each P (f t)) (trees_of x)) → All P (flat_map f (all_trees (specification_of spec)))
     trees P f h = all P (flat_map f (all_trees (specification_of spec))) (of_trees P f (from_roots (λ x. Each (λ t. Each P (f t)) (trees_of x)) h))
@@ -180,7 +192,7 @@ module _ (spec : Spec) where
       actions_exist = all (IsNumber (length spec.actions)) (flat_map actions_in (all_trees (specification_of spec)) ++ flat_map token_actions (roots_of (specification_of spec))) numbers_of_actions;
       condition_actions_exist = all (IsNumber (length spec.actions)) (map (λ (a : ActionId). a.0) spec.conds) (each_map (IsNumber (length spec.actions)) (λ (a : ActionId). a.0) spec.conds (each (IsCondition (length spec.actions)) spec.conds parts.sound.conditions));
       conditions_exist = trees (IsNumber (length spec.conds)) conditions_in (λ x h. h.conditions);
-      entries_exist = of_statements (λ s. IfSome s.entry (λ e. IsNumber (length spec.entries) e.0));
+      entries_exist = of_statements (λ s. IfSome s.entry (λ e. IsNumber (length spec.entries) e.0)) (λ s h. h.exists);
       files_exist = all (HasFile (length spec.files)) (all_places spec) files;
       keys_in_alphabet = trees (IsKeySet scope) sets_in (λ x h. h.keys);
       few_ranges = trees IsFewRanges sets_in (λ x h. h.ranges);
@@ -189,16 +201,16 @@ module _ (spec : Spec) where
       stamps = trees (IsNumber 100000) stamps_in (λ x h. h.stamps);
       places = all HasPlaces spec.entries (of_entries HasPlaces (λ e h. size_of_root scope (length e.places) (root_of e.root) h.root));
       patterns = all HasPatterns (roots_of (specification_of spec)) (from_roots HasPatterns (λ x h. h.patterns));
-      statement_entries = of_statements (λ s. IsSome s.entry ↔ IsTrue (names_entry s.kind));
-      few_outer = all (λ (a : ActionDef). outer_statements a.statements ≤ 4) spec.actions (of_actions (λ a. outer_statements a.statements ≤ 4) (λ a h. few_statements a h.quiet));
-      quiet = all (HasNoStatement (map action_of spec.actions)) (quiet_actions (specification_of spec)) (of_numbers (quiet_actions (specification_of spec)));
+      codes = parts.codes;
+      statement_entries = of_statements (λ s. IsSome s.entry ↔ IsTrue (names_entry s.kind)) (λ s h. h.entry);
+      few_outer = all (λ (a : ActionDef). outer_statements a.statements ≤ 4) spec.actions (of_actions (λ a. outer_statements a.statements ≤ 4) (λ a h. h.few_outer));
+      quiet = all Quiet (quiet_actions (specification_of spec)) all_quiet;
     }
 
     pub form_of_parts : HasForm spec
     form_of_parts = record {
       well_formed = well_formed;
       plain = all (λ (e : rust_entry.Entry). IsPlain (root_of e.root)) spec.entries (to_roots IsPlain (from_roots IsPlain (λ x h. h.plain)));
-      quiet = no_statements;
     }
 
   -- ---- and back
@@ -254,8 +266,26 @@ module _ (spec : Spec) where
           places = all (HasFile (length spec.files)) e.places (each_front (HasFile (length spec.files)) e.places (pattern_places e.root) (each_at (λ (e : rust_entry.Entry). Each (HasFile (length spec.files)) (e.places ++ pattern_places e.root)) spec.entries i e at back_entries_files));
         }
 
-    back_quiet : Each (λ (a : ActionDef). a.statements ≡ []) spec.actions
-    back_quiet = each_mapped (λ (a : Action). a.statements ≡ []) action_of spec.actions (each_empty (λ (a : Action). a.statements) (map action_of spec.actions) form.quiet)
+    abbrev NoStatement : ℕ → Type 0
+    NoStatement = HasNoStatement (map action_of spec.actions)
+
+    back_quiet : Each NoStatement (quiet_actions (specification_of spec))
+    back_quiet = each NoStatement (quiet_actions (specification_of spec)) wf.quiet
+
+    back_former : Each NoStatement (map (λ (a : ActionId). a.0) spec.conds ++ flat_map turn_actions_in (all_trees (specification_of spec)))
+    back_former = each_front NoStatement (map (λ (a : ActionId). a.0) spec.conds ++ flat_map turn_actions_in (all_trees (specification_of spec))) (flat_map actions_in (flat_map pattern_trees (roots_of (specification_of spec)))) back_quiet
+
+    back_conditions : Each (λ (a : ActionId). IsQuiet spec.actions a.0) spec.conds
+    back_conditions = each_more (λ (a : ActionId). NoStatement a.0) (λ (a : ActionId). IsQuiet spec.actions a.0) spec.conds (λ a h. number_quiet spec.actions a.0 h)
+        (each_mapped NoStatement (λ (a : ActionId). a.0) spec.conds (each_front NoStatement (map (λ (a : ActionId). a.0) spec.conds) (flat_map turn_actions_in (all_trees (specification_of spec))) back_former))
+
+    back_in_turns : Each (λ (e : rust_entry.Entry). Each (λ t. Each NoStatement (turn_actions_in t)) (trees_of (root_of e.root))) spec.entries
+    back_in_turns = to_roots (λ x. Each (λ t. Each NoStatement (turn_actions_in t)) (trees_of x))
+        (each_of_flat_flat NoStatement turn_actions_in trees_of (roots_of (specification_of spec)) (each_behind NoStatement (map (λ (a : ActionId). a.0) spec.conds) (flat_map turn_actions_in (all_trees (specification_of spec))) back_former))
+
+    quiet_root_at : (i : ℕ) (e : rust_entry.Entry) → slice_get spec.entries i ≡ Some e → IsQuietRoot spec.actions (root_of e.root)
+    quiet_root_at i e at = turns_root spec.actions (root_of e.root) (each_at (λ (e : rust_entry.Entry). IsPlain (root_of e.root)) spec.entries i e at plain_ones)
+        (each_at (λ (e : rust_entry.Entry). Each (λ t. Each NoStatement (turn_actions_in t)) (trees_of (root_of e.root))) spec.entries i e at back_in_turns)
 
     back_actions_files : Each (λ (a : ActionDef). HasFile (length spec.files) a.place) spec.actions
     back_actions_files = each_mapped (HasFile (length spec.files)) (λ (a : ActionDef). a.place) spec.actions (each_behind (HasFile (length spec.files)) (flat_map (λ (e : rust_entry.Entry). e.places ++ pattern_places e.root) spec.entries) (map (λ (a : ActionDef). a.place) spec.actions) former_files)
@@ -266,7 +296,7 @@ module _ (spec : Spec) where
     action_at : (i : ℕ) (a : ActionDef) → slice_get spec.actions i ≡ Some a → IsAction (length spec.files) a
     action_at i a at = record {
       name = each_at (λ (a : ActionDef). IsTrue (is_action_name a.name)) spec.actions i a at (each (λ (a : ActionDef). IsTrue (is_action_name a.name)) spec.actions wf.action_names);
-      quiet = each_at (λ (a : ActionDef). a.statements ≡ []) spec.actions i a at back_quiet;
+      few_outer = each_at (λ (a : ActionDef). outer_statements a.statements ≤ 4) spec.actions i a at (each (λ (a : ActionDef). outer_statements a.statements ≤ 4) spec.actions wf.few_outer);
       place = each_at (λ (a : ActionDef). HasFile (length spec.files) a.place) spec.actions i a at back_actions_files;
     }
 
@@ -280,7 +310,12 @@ module _ (spec : Spec) where
         conditions = all (IsCondition (length spec.actions)) spec.conds (each_mapped (IsNumber (length spec.actions)) (λ (a : ActionId). a.0) spec.conds (each (IsNumber (length spec.actions)) (map (λ (a : ActionId). a.0) spec.conds) wf.condition_actions_exist));
         writes = all (IsWrite (length spec.files)) spec.writes back_writes_files;
       };
+      quiet = record {
+        conditions = all (λ (a : ActionId). IsQuiet spec.actions a.0) spec.conds back_conditions;
+        turns = all (λ (e : rust_entry.Entry). IsQuietRoot spec.actions (root_of e.root)) spec.entries (each_from (λ (e : rust_entry.Entry). IsQuietRoot spec.actions (root_of e.root)) spec.entries quiet_root_at);
+      };
       apart = record { entries = wf.entries_differ; actions = wf.actions_differ; conditions = wf.conditions_differ };
+      codes = wf.codes;
     }
 
 -- ---- an answer

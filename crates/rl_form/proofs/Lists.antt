@@ -1,5 +1,5 @@
 -- What holds of each element of a list.
-use Rattle.std.proofs.Common.{◌≡◌, ℕ, zero, suc, List, [], ◌∷◌, ◌++◌, map, Some, refl, ap, ◌∙◌, subst}
+use Rattle.std.proofs.Common.{◌≡◌, ℕ, zero, suc, List, [], ◌∷◌, ◌++◌, map, Some, refl, subst}
 use Rattle.std.specs.Prelude.{slice_get, All}
 use Rattle.std.specs.List.{AllByRecursion, flat_map}
 use Rattle.std.proofs.lemmas.List.Elements.{All-from_recursion, recursion_from_All}
@@ -56,24 +56,6 @@ each_at P (y ∷ xs) (suc i) x e a = each_at P xs i x e a.1
 pub each_from : {X : Type 0} → (P : X → Type 0) (xs : List X) → ((i : ℕ) (x : X) → slice_get xs i ≡ Some x → P x) → Each P xs
 each_from P [] f = tt
 each_from P (x ∷ xs) f = (f 0 x refl, each_from P xs (λ i y e. f (suc i) y e))
-
--- ---- empty lists
-
-pub no_elements : {X Y : Type 0} → (f : X → List Y) (xs : List X) → Each (λ x. f x ≡ []) xs → flat_map f xs ≡ []
-no_elements f [] a = refl
-no_elements f (x ∷ xs) a = ap (λ z. z ++ flat_map f xs) a.0 ∙ no_elements f xs a.1
-
-front_empty : {Y : Type 0} → (xs ys : List Y) → xs ++ ys ≡ [] → xs ≡ []
-front_empty [] ys e = refl
-front_empty (x ∷ xs) ys e = absurd cc
-
-behind_empty : {Y : Type 0} → (xs ys : List Y) → xs ++ ys ≡ [] → ys ≡ []
-behind_empty [] ys e = e
-behind_empty (x ∷ xs) ys e = absurd cc
-
-pub each_empty : {X Y : Type 0} → (f : X → List Y) (xs : List X) → flat_map f xs ≡ [] → Each (λ x. f x ≡ []) xs
-each_empty f [] e = tt
-each_empty f (x ∷ xs) e = (front_empty (f x) (flat_map f xs) e, each_empty f xs (behind_empty (f x) (flat_map f xs) e))
 
 -- ---- between the two ways to say it
 

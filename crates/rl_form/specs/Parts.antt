@@ -1,8 +1,10 @@
 -- What is asked of each part of a Spec.
-use Rattle.std.specs.Prelude.{◌≡◌, ℕ, ◌<◌, ◌≤◌, IsTrue, List, [], map, length, All}
+use Rattle.std.specs.Prelude.{◌≡◌, ℕ, ◌-◌, ◌<◌, ◌≤◌, IsTrue, IfSome, List, [], map, length, slice_get, All}
 use Rattle.rl_types.specs.declared.numbers.ActionId.{ActionId}
 use Rattle.rl_types.specs.declared.numbers.Place.{Place}
 use Rattle.rl_types.specs.KeyRange.{Range}
+use Rattle.rl_automata.specs.declared.tree.Kind.{Kind}
+use Rattle.rl_automata.specs.declared.tree.Kind.TheVariants as K
 use Rattle.rl_automata.specs.declared.tree.Label.{Label}
 use Rattle.rl_automata.specs.declared.tree.Label.TheVariants.{Action, Prior}
 use Rattle.rl_automata.specs.Nodes as N
@@ -15,7 +17,7 @@ use Rattle.rl_model.specs.declared.spec.Write.{Write}
 use Rattle.rl_model.specs.declared.spec.Spec.{Spec}
 use Rattle.rl_model.specs.Specification.{Root, Plain, Scanner, root_of}
 use Rattle.rl_model.specs.Counts.{size_of, depth_of}
-use Rattle.rl_model.specs.WellFormed.{IsNumber, IsInAlphabet}
+use Rattle.rl_model.specs.WellFormed.{IsNumber, IsInAlphabet, IsCodeRead, outer_statements}
 use Rattle.rl_form.specs.declared.scope.Scope.{Scope}
 
 -- what a Spec has, for its parts to speak of
@@ -74,7 +76,7 @@ pub record IsEntry (scope : Scope) (e : rust_entry.Entry) : Type 0 where
 
 pub record IsAction (files : ℕ) (a : ActionDef) : Type 0 where
   pub name : IsTrue (is_action_name a.name)
-  pub quiet : a.statements ≡ []
+  pub few_outer : outer_statements a.statements ≤ 4
   pub place : HasFile files a.place
 
 abbrev pub IsWrite : ℕ → Write → Type 0
@@ -82,6 +84,41 @@ IsWrite files w = HasFile files w.place
 
 abbrev pub IsCondition : ℕ → ActionId → Type 0
 IsCondition actions c = IsNumber actions c.0
+
+-- ---- actions without control statements
+
+-- the action with this number, from 1, has no control statement; there may be none with it
+abbrev pub IsQuiet : List ActionDef → ℕ → Type 0
+IsQuiet actions n = 1 ≤ n → IfSome (slice_get actions (n - 1)) (λ (a : ActionDef). a.statements ≡ [])
+
+-- the action of a mark, where it is a to-state or a from-state action
+abbrev pub HasQuietMark : List ActionDef → Kind → ℕ → Type 0
+HasQuietMark actions K.To x = IsQuiet actions x
+HasQuietMark actions K.From x = IsQuiet actions x
+HasQuietMark actions K.Eof x = Unit {0}
+HasQuietMark actions K.Error x = Unit {0}
+
+-- its to-state and from-state actions
+abbrev pub HasQuietTurns : List ActionDef → Node → Type 0
+HasQuietTurns actions (N.Set ranges) = Unit {0}
+HasQuietTurns actions N.Null = Unit {0}
+HasQuietTurns actions N.Nothing = Unit {0}
+HasQuietTurns actions (N.Union a b) = HasQuietTurns actions a × HasQuietTurns actions b
+HasQuietTurns actions (N.And a b) = HasQuietTurns actions a × HasQuietTurns actions b
+HasQuietTurns actions (N.Minus a b) = HasQuietTurns actions a × HasQuietTurns actions b
+HasQuietTurns actions (N.Cat a b) = HasQuietTurns actions a × HasQuietTurns actions b
+HasQuietTurns actions (N.Star a n) = HasQuietTurns actions a
+HasQuietTurns actions (N.Enter a l) = HasQuietTurns actions a
+HasQuietTurns actions (N.Finish a l) = HasQuietTurns actions a
+HasQuietTurns actions (N.All a l) = HasQuietTurns actions a
+HasQuietTurns actions (N.Leave a l) = HasQuietTurns actions a
+HasQuietTurns actions (N.Mark a class kind s x) = HasQuietMark actions kind x × HasQuietTurns actions a
+HasQuietTurns actions (N.When a c) = HasQuietTurns actions a
+
+-- an expression and no scanner, with quiet to-state and from-state actions
+abbrev pub IsQuietRoot : List ActionDef → Root → Type 0
+IsQuietRoot actions (Plain t) = HasQuietTurns actions t
+IsQuietRoot actions (Scanner ps) = ⊥
 
 -- ---- a Spec
 
@@ -106,7 +143,15 @@ pub record AreSound (spec : Spec) : Type 0 where
   pub conditions : All (IsCondition (length spec.actions)) spec.conds
   pub writes : All (IsWrite (length spec.files)) spec.writes
 
+-- conditions, to-state and from-state actions have no control statements
+pub record AreQuiet (spec : Spec) : Type 0 where
+  pub conditions : All (λ (a : ActionId). IsQuiet spec.actions a.0) spec.conds
+  pub turns : All (λ (e : rust_entry.Entry). IsQuietRoot spec.actions (root_of e.root)) spec.entries
+
 pub record HasParts (spec : Spec) : Type 0 where
   pub few : AreFew spec
   pub sound : AreSound spec
+  pub quiet : AreQuiet spec
   pub apart : AreApart spec
+  -- each action's code says what its statements are
+  pub codes : All (IsCodeRead spec) spec.actions

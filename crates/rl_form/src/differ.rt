@@ -13,8 +13,11 @@ use rl_model::{ActionDef, Entry, Spec};
 use rl_types::{ActionId, Memory, Name};
 use std::alloc::Global;
 
+/// The names of entries.
+pub(crate) type Names<'a> = IndexSet<&'a [u8]>;
+
 // Notes a name, unless it is there, and says whether it was new.
-fn note<'a>(set: &mut IndexSet<&'a [u8]>, name: &'a Name) -> Result<bool, Memory>
+fn note<'a>(set: &mut Names<'a>, name: &'a Name) -> Result<bool, Memory>
     ensures new { IfOk result (λ b. b ≡ true → In name.now (texts set.old) → ⊥) }
     ensures known { IfOk result (λ b. b ≡ false → In name.now (texts set.old)) }
     ensures noted { IfOk result (λ b. b ≡ true → texts set.new ≡ texts set.old ++ name.now ∷ []) }
@@ -36,6 +39,18 @@ fn do_entries_differ(alloc: Global, entries: &[Entry]) -> Result<bool, Memory>
         }
     }
     Ok(true)
+}
+
+// The names of entries, no two of which are the same, in order.
+pub(crate) fn entry_names<'a>(alloc: Global, entries: &'a [Entry]) -> Result<Names<'a>, Memory>
+    requires { AreDifferent (map (λ (e : entry.Entry). e.name) entries.now) }
+    ensures { IfOk result (λ names. texts names ≡ map (λ (e : entry.Entry). e.name) entries.now) }
+{
+    let mut names = IndexSet::new(alloc);
+    for e in entries {
+        let _is_new = note(&mut names, &e.name)?;
+    }
+    Ok(names)
 }
 
 fn do_actions_differ(alloc: Global, actions: &[ActionDef]) -> Result<bool, Memory>

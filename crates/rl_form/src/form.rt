@@ -3,8 +3,10 @@ ghost use Rattle.std.specs.Prelude.{◌↔◌, IsTrue, IfOk};
 ghost use Rattle.rl_form.specs.Form.{HasForm};
 ghost use Rattle.rl_form.specs.Parts.{HasParts};
 
+use crate::codes::are_codes_read;
 use crate::differ::are_apart;
 use crate::parts::{are_few, are_sound};
+use crate::quiet::are_quiet;
 use rl_model::Spec;
 use rl_types::Memory;
 use std::alloc::Global;
@@ -18,11 +20,18 @@ fn has_parts(alloc: Global, spec: &Spec) -> Result<bool, Memory>
     if !are_sound(spec) {
         return Ok(false);
     }
-    are_apart(alloc, spec)
+    if !are_quiet(spec) {
+        return Ok(false);
+    }
+    let is_apart = are_apart(alloc, spec)?;
+    if !is_apart {
+        return Ok(false);
+    }
+    are_codes_read(alloc, spec)
 }
 
-/// Whether the Spec is well-formed, no entry of it is a scanner, and no action has a control statement (this profile:
-/// what is not built yet). The only error is want of memory.
+/// Whether the Spec is well-formed, and no entry of it is a scanner, which is not built yet. The only error is want of
+/// memory.
 pub fn has_form(alloc: Global, spec: &Spec) -> Result<bool, Memory>
     ensures { IfOk result (λ b. IsTrue b ↔ HasForm spec.now) }
 {

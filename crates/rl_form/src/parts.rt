@@ -7,6 +7,7 @@ ghost use Rattle.rl_form.specs.Parts.{HasFile, IsTree, IsRoot, IsEntry, IsAction
 use crate::expressions::{is_number, is_sound};
 use crate::scope::Scope;
 use crate::sizes::{has_nodes, is_within};
+use crate::statements::outer_statements;
 use rl_arrays::{is_action_name, is_name};
 use rl_automata::Tree;
 use rl_model::{ActionDef, Entry, Root, Spec, Write};
@@ -59,7 +60,9 @@ fn are_entries(scope: &Scope, entries: &[Entry]) -> bool
 fn is_action(files: usize, a: &ActionDef) -> bool
     ensures { IsTrue result ↔ IsAction files a.now }
 {
-    is_action_name(a.name.bytes()) && a.statements.is_empty() && has_file(files, &a.place)
+    is_action_name(a.name.bytes())
+        && outer_statements(a.statements.as_slice()) <= 4
+        && has_file(files, &a.place)
 }
 
 fn are_actions(files: usize, actions: &[ActionDef]) -> bool

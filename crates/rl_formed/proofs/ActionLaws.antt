@@ -6,38 +6,39 @@ use Rattle.rl_grammar.specs.declared.syntax.Statement.TheVariants as statement
 use Rattle.rl_model.specs.declared.spec.ActionDef.{ActionDef}
 use Rattle.rl_grammar.specs.declared.step.Step.{Step}
 use Rattle.rl_names.specs.Actions.{anonymous_name, action_def, action_used, actions_by, actions_behind, actions_of}
+use Rattle.rl_names.specs.Entries.{entries_of}
 use Rattle.rl_names.specs.Events.{Event, union_events}
 use Rattle.rl_names.specs.Events as event
 use Rattle.rl_names.specs.Frames.{is_of}
 use Rattle.rl_form.proofs.Lists.{Each, each_append}
 
-module _ (P : ActionDef → Type 0) where
+module _ (P : ActionDef → Type 0) (entries : List (List ℕ)) where
   -- it holds of the action that an expression has
   abbrev pub HoldsOfEvent : Event → Type 0
-  HoldsOfEvent (event.Code w) = P (action_def (anonymous_name w.place) w)
+  HoldsOfEvent (event.Code w) = P (action_def entries (anonymous_name w.place) w)
   HoldsOfEvent _ = Unit {0}
 
   -- it holds of the actions that a statement defines
   abbrev pub HoldsOfStatement : Statement → Type 0
-  HoldsOfStatement (statement.Action a) = P (action_def a.name.text a.code)
+  HoldsOfStatement (statement.Action a) = P (action_def entries a.name.text a.code)
   HoldsOfStatement (statement.Definition d) = Each HoldsOfEvent (union_events d.value)
   HoldsOfStatement _ = Unit {0}
 
-  by_event : (e : Event) (actions : List ActionDef) → HoldsOfEvent e → Each P actions → Each P (action_used actions e)
-  by_event (event.Code w) actions p h = each_append P actions (action_def (anonymous_name w.place) w ∷ []) h (p, tt)
+  by_event : (e : Event) (actions : List ActionDef) → HoldsOfEvent e → Each P actions → Each P (action_used entries actions e)
+  by_event (event.Code w) actions p h = each_append P actions (action_def entries (anonymous_name w.place) w ∷ []) h (p, tt)
   by_event (event.Leaf o) actions p h = h
   by_event (event.Name w) actions p h = h
   by_event (event.Action w) actions p h = h
   by_event (event.Priority w) actions p h = h
-  by_event (event.When place) actions p h = h
+  by_event (event.Quiet place a) actions p h = h
   by_event (event.Scan place) actions p h = h
 
-  by_events : (es : List Event) (actions : List ActionDef) → Each HoldsOfEvent es → Each P actions → Each P (fold action_used actions es)
+  by_events : (es : List Event) (actions : List ActionDef) → Each HoldsOfEvent es → Each P actions → Each P (fold (action_used entries) actions es)
   by_events [] actions p h = h
-  by_events (e ∷ es) actions p h = by_events es (action_used actions e) p.1 (by_event e actions p.0 h)
+  by_events (e ∷ es) actions p h = by_events es (action_used entries actions e) p.1 (by_event e actions p.0 h)
 
-  by_statement : (s : Statement) (actions : List ActionDef) → HoldsOfStatement s → Each P actions → Each P (actions_by actions s)
-  by_statement (statement.Action a) actions p h = each_append P actions (action_def a.name.text a.code ∷ []) h (p, tt)
+  by_statement : (s : Statement) (actions : List ActionDef) → HoldsOfStatement s → Each P actions → Each P (actions_by entries actions s)
+  by_statement (statement.Action a) actions p h = each_append P actions (action_def entries a.name.text a.code ∷ []) h (p, tt)
   by_statement (statement.Definition d) actions p h = by_events (union_events d.value) actions p h
   by_statement (statement.Machine m) actions p h = h
   by_statement (statement.Include m) actions p h = h
@@ -46,48 +47,17 @@ module _ (P : ActionDef → Type 0) where
   by_statement (statement.Variable m) actions p h = h
   by_statement (statement.Write m) actions p h = h
 
-  by_choice : (b : Bool) (s : Statement) (actions : List ActionDef) → HoldsOfStatement s → Each P actions → Each P (if b then actions_by actions s else actions)
-  by_choice true s actions p h = by_statement s actions p h
+  by_choice : (b : Bool) (s : Statement) (actions : List ActionDef) → (b ≡ true → HoldsOfStatement s) → Each P actions → Each P (if b then actions_by entries actions s else actions)
+  by_choice true s actions p h = by_statement s actions (p refl) h
   by_choice false s actions p h = h
 
-  by_steps : (machine : List ℕ) (steps : List Step) (actions : List ActionDef) → Each (λ (s : Step). HoldsOfStatement s.statement) steps → Each P actions → Each P (fold (actions_behind machine) actions steps)
+  -- it holds of the actions that a step of the machine defines
+  abbrev pub HoldsOfOwn : List ℕ → Step → Type 0
+  HoldsOfOwn machine s = is_of machine s ≡ true → HoldsOfStatement s.statement
+
+  pub by_steps : (machine : List ℕ) (steps : List Step) (actions : List ActionDef) → Each (HoldsOfOwn machine) steps → Each P actions → Each P (fold (actions_behind entries machine) actions steps)
   by_steps machine [] actions p h = h
-  by_steps machine (s ∷ ss) actions p h = by_steps machine ss (actions_behind machine actions s) p.1 (by_choice (is_of machine s) s.statement actions p.0 h)
+  by_steps machine (s ∷ ss) actions p h = by_steps machine ss (actions_behind entries machine actions s) p.1 (by_choice (is_of machine s) s.statement actions p.0 h)
 
-  pub all_actions : (machine : List ℕ) (steps : List Step) → Each (λ (s : Step). HoldsOfStatement s.statement) steps → Each P (actions_of machine steps)
-  all_actions machine steps p = by_steps machine steps [] p tt
-
--- ---- no action has a control statement
-
-abbrev pub IsQuiet : ActionDef → Type 0
-IsQuiet a = a.statements ≡ []
-
-quiet_event : (e : Event) → HoldsOfEvent IsQuiet e
-quiet_event (event.Code w) = refl
-quiet_event (event.Leaf o) = tt
-quiet_event (event.Name w) = tt
-quiet_event (event.Action w) = tt
-quiet_event (event.Priority w) = tt
-quiet_event (event.When place) = tt
-quiet_event (event.Scan place) = tt
-
-quiet_events : (es : List Event) → Each (HoldsOfEvent IsQuiet) es
-quiet_events [] = tt
-quiet_events (e ∷ es) = (quiet_event e, quiet_events es)
-
-quiet_statement : (s : Statement) → HoldsOfStatement IsQuiet s
-quiet_statement (statement.Action a) = refl
-quiet_statement (statement.Definition d) = quiet_events (union_events d.value)
-quiet_statement (statement.Machine m) = tt
-quiet_statement (statement.Include m) = tt
-quiet_statement (statement.Alphtype m) = tt
-quiet_statement (statement.Access m) = tt
-quiet_statement (statement.Variable m) = tt
-quiet_statement (statement.Write m) = tt
-
-quiet_steps : (steps : List Step) → Each (λ (s : Step). HoldsOfStatement IsQuiet s.statement) steps
-quiet_steps [] = tt
-quiet_steps (s ∷ ss) = (quiet_statement s.statement, quiet_steps ss)
-
-pub all_quiet : (machine : List ℕ) (steps : List Step) → Each IsQuiet (actions_of machine steps)
-all_quiet machine steps = all_actions IsQuiet machine steps (quiet_steps steps)
+pub all_actions : (P : ActionDef → Type 0) (machine : List ℕ) (steps : List Step) → Each (HoldsOfOwn P (entries_of machine steps) machine) steps → Each P (actions_of machine steps)
+all_actions P machine steps p = by_steps P (entries_of machine steps) machine steps [] p tt

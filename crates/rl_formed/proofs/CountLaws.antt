@@ -15,13 +15,15 @@ use Rattle.rl_grammar.specs.declared.step.Step.{Step}
 use Rattle.rl_draft.specs.declared.draft.Definition.{Definition}
 use Rattle.rl_names.specs.Actions.{action_def, action_used, actions_by, actions_behind, actions_of}
 use Rattle.rl_names.specs.Answers.{along}
+use Rattle.rl_names.specs.Codes.{code_fault}
 use Rattle.rl_names.specs.Drafts.{scope_behind, definition_read, definition_behind, definitions_by, definitions_behind, definitions_of}
 use Rattle.rl_names.specs.Drafts as drafts
+use Rattle.rl_names.specs.Entries.{entries_of}
 use Rattle.rl_names.specs.Events.{Event, Found, union_events}
 use Rattle.rl_names.specs.Events as event
 use Rattle.rl_names.specs.Expressions.{Scope}
 use Rattle.rl_names.specs.Frames.{is_of}
-use Rattle.rl_names.specs.Names.{Known, known, codes_in, is_code, names_by, names_of, unless, too_many, counted, use_fault, uses_fault, name_fault, statement_fault, step_fault, faults_behind, names_fault}
+use Rattle.rl_names.specs.Names.{Known, known, codes_in, is_code, names_by, names_of, unless, too_many, counted, use_fault, uses_fault, name_fault, action_name_fault, statement_fault, step_fault, faults_behind, names_fault}
 use Rattle.rl_formed.proofs.ResultLaws.{some_or_none, or_none, ok_then, same_ok, not_refused}
 
 -- ---- names are counted
@@ -40,13 +42,13 @@ uses_count : (k : Known) (machine : List ℕ) (n : ℕ) (es : Found) → n ≤ 6
 uses_count k machine n [] h e = omega (arith, h)
 uses_count k machine n (event.Code w ∷ es) h e =
     let p = or_none (use_fault k machine n (event.Code w)) (uses_fault k machine (n + 1) es) e in
-    let l = counts n w.place p.0 in
+    let l = counts n w.place (or_none (counted n w.place) (code_fault w) p.0).0 in
     omega (arith, uses_count k machine (n + 1) es l p.1)
 uses_count k machine n (event.Leaf o ∷ es) h e = let m : n + 0 ≤ 65535 = omega (arith, h) in omega (arith, uses_count k machine (n + 0) es m (or_none (use_fault k machine n (event.Leaf o)) (uses_fault k machine (n + 0) es) e).1)
 uses_count k machine n (event.Name w ∷ es) h e = let m : n + 0 ≤ 65535 = omega (arith, h) in omega (arith, uses_count k machine (n + 0) es m (or_none (use_fault k machine n (event.Name w)) (uses_fault k machine (n + 0) es) e).1)
 uses_count k machine n (event.Action w ∷ es) h e = let m : n + 0 ≤ 65535 = omega (arith, h) in omega (arith, uses_count k machine (n + 0) es m (or_none (use_fault k machine n (event.Action w)) (uses_fault k machine (n + 0) es) e).1)
 uses_count k machine n (event.Priority w ∷ es) h e = let m : n + 0 ≤ 65535 = omega (arith, h) in omega (arith, uses_count k machine (n + 0) es m (or_none (use_fault k machine n (event.Priority w)) (uses_fault k machine (n + 0) es) e).1)
-uses_count k machine n (event.When place ∷ es) h e = let m : n + 0 ≤ 65535 = omega (arith, h) in omega (arith, uses_count k machine (n + 0) es m (or_none (use_fault k machine n (event.When place)) (uses_fault k machine (n + 0) es) e).1)
+uses_count k machine n (event.Quiet place a ∷ es) h e = let m : n + 0 ≤ 65535 = omega (arith, h) in omega (arith, uses_count k machine (n + 0) es m (or_none (use_fault k machine n (event.Quiet place a)) (uses_fault k machine (n + 0) es) e).1)
 uses_count k machine n (event.Scan place ∷ es) h e = let m : n + 0 ≤ 65535 = omega (arith, h) in omega (arith, uses_count k machine (n + 0) es m (or_none (use_fault k machine n (event.Scan place)) (uses_fault k machine (n + 0) es) e).1)
 
 statement_counts : (k : Known) (machine : List ℕ) (n : ℕ) (s : Statement) → n ≤ 65535 → statement_fault k machine n s ≡ None → n + names_by s ≤ 65535
@@ -54,7 +56,7 @@ statement_counts k machine n (statement.Definition d) h e =
     let p = or_none _ _ (or_none (name_fault k machine d.name) _ e).1 in
     let l = counts n d.name.place p.0 in
     omega (arith, uses_count k machine (n + 1) (union_events d.value) l p.1)
-statement_counts k machine n (statement.Action a) h e = counts n a.name.place (or_none _ (counted n a.name.place) e).1
+statement_counts k machine n (statement.Action a) h e = counts n a.name.place (or_none (counted n a.name.place) (code_fault a.code) (or_none (action_name_fault k machine a.name) _ e).1).0
 statement_counts k machine n (statement.Machine m) h e = omega (arith, h)
 statement_counts k machine n (statement.Include m) h e = omega (arith, h)
 statement_counts k machine n (statement.Alphtype m) h e = omega (arith, h)
@@ -90,40 +92,40 @@ module _ (machine : List ℕ) where
 
   -- ---- actions
 
-  one_action : (e : Event) (actions : List ActionDef) → length (action_used actions e) ≡ length actions + is_code e
-  one_action (event.Code w) actions = length-append actions _
-  one_action (event.Leaf o) actions = omega arith
-  one_action (event.Name w) actions = omega arith
-  one_action (event.Action w) actions = omega arith
-  one_action (event.Priority w) actions = omega arith
-  one_action (event.When place) actions = omega arith
-  one_action (event.Scan place) actions = omega arith
+  one_action : (entries : List (List ℕ)) (e : Event) (actions : List ActionDef) → length (action_used entries actions e) ≡ length actions + is_code e
+  one_action entries (event.Code w) actions = length-append actions _
+  one_action entries (event.Leaf o) actions = omega arith
+  one_action entries (event.Name w) actions = omega arith
+  one_action entries (event.Action w) actions = omega arith
+  one_action entries (event.Priority w) actions = omega arith
+  one_action entries (event.Quiet place a) actions = omega arith
+  one_action entries (event.Scan place) actions = omega arith
 
-  event_actions : (es : Found) (actions : List ActionDef) → length (fold action_used actions es) ≡ length actions + codes_in es
-  event_actions [] actions = omega arith
-  event_actions (e ∷ es) actions = event_actions es (action_used actions e) ∙ omega (arith, one_action e actions)
+  event_actions : (entries : List (List ℕ)) (es : Found) (actions : List ActionDef) → length (fold (action_used entries) actions es) ≡ length actions + codes_in es
+  event_actions entries [] actions = omega arith
+  event_actions entries (e ∷ es) actions = event_actions entries es (action_used entries actions e) ∙ omega (arith, one_action entries e actions)
 
-  statement_actions : (s : Statement) (actions : List ActionDef) → length (actions_by actions s) ≤ length actions + names_by s
-  statement_actions (statement.Definition d) actions = omega (arith, event_actions (union_events d.value) actions)
-  statement_actions (statement.Action a) actions = let e = length-append actions (action_def a.name.text a.code ∷ []) in omega (arith, e)
-  statement_actions (statement.Machine m) actions = omega arith
-  statement_actions (statement.Include m) actions = omega arith
-  statement_actions (statement.Alphtype m) actions = omega arith
-  statement_actions (statement.Access m) actions = omega arith
-  statement_actions (statement.Variable m) actions = omega arith
-  statement_actions (statement.Write m) actions = omega arith
+  statement_actions : (entries : List (List ℕ)) (s : Statement) (actions : List ActionDef) → length (actions_by entries actions s) ≤ length actions + names_by s
+  statement_actions entries (statement.Definition d) actions = omega (arith, event_actions entries (union_events d.value) actions)
+  statement_actions entries (statement.Action a) actions = let e = length-append actions (action_def entries a.name.text a.code ∷ []) in omega (arith, e)
+  statement_actions entries (statement.Machine m) actions = omega arith
+  statement_actions entries (statement.Include m) actions = omega arith
+  statement_actions entries (statement.Alphtype m) actions = omega arith
+  statement_actions entries (statement.Access m) actions = omega arith
+  statement_actions entries (statement.Variable m) actions = omega arith
+  statement_actions entries (statement.Write m) actions = omega arith
 
-  action_case : (b : Bool) (s : Statement) (actions : List ActionDef) → length (if b then actions_by actions s else actions) ≤ length actions + (if b then names_by s else 0)
-  action_case true s actions = statement_actions s actions
-  action_case false s actions = omega arith
+  action_case : (entries : List (List ℕ)) (b : Bool) (s : Statement) (actions : List ActionDef) → length (if b then actions_by entries actions s else actions) ≤ length actions + (if b then names_by s else 0)
+  action_case entries true s actions = statement_actions entries s actions
+  action_case entries false s actions = omega arith
 
-  step_actions : (ss : List Step) (actions : List ActionDef) → length (fold (actions_behind machine) actions ss) ≤ length actions + names_of machine ss
-  step_actions [] actions = omega arith
-  step_actions (s ∷ ss) actions = omega (arith, step_actions ss (actions_behind machine actions s), action_case (is_of machine s) s.statement actions)
+  step_actions : (entries : List (List ℕ)) (ss : List Step) (actions : List ActionDef) → length (fold (actions_behind entries machine) actions ss) ≤ length actions + names_of machine ss
+  step_actions entries [] actions = omega arith
+  step_actions entries (s ∷ ss) actions = omega (arith, step_actions entries ss (actions_behind entries machine actions s), action_case entries (is_of machine s) s.statement actions)
 
   -- no more actions than names
   pub few_actions : (steps : List Step) → names_fault steps ≡ None → length (actions_of machine steps) ≤ 65535
-  few_actions steps e = omega (arith, step_actions steps [], few_names steps e)
+  few_actions steps e = omega (arith, step_actions (entries_of machine steps) steps [], few_names steps e)
 
   -- ---- definitions
 

@@ -7,7 +7,6 @@ use Rattle.rl_arrays.specs.Names.{is_name, is_place, is_action_name}
 use Rattle.rl_names.specs.Events.{Event, union_events}
 use Rattle.rl_names.specs.Events as event
 use Rattle.rl_names.specs.Frames.{machines_of, writes_of}
-use Rattle.rl_model.specs.declared.spec.Write.{Write}
 use Rattle.rl_types.specs.declared.numbers.ActionId.{ActionId}
 use Rattle.std.proofs.lemmas.List.{length-map}
 use Rattle.rl_automata.specs.Nodes.{Node}
@@ -20,16 +19,17 @@ use Rattle.rl_grammar.specs.declared.step.Step.{Step}
 use Rattle.rl_draft.specs.declared.draft.Definition.{Definition}
 use Rattle.rl_draft.specs.declared.draft.Draft.{Draft}
 use Rattle.rl_names.specs.Actions.{actions_of, action_names}
+use Rattle.rl_names.specs.Entries.{entries_of}
 use Rattle.rl_names.specs.Drafts.{definitions_of, scope_of, definitions_with, draft_with, draft_of}
 use Rattle.rl_rewrite.specs.Entries.{Made, meanings, entries, all_conditions}
 use Rattle.rl_rewrite.specs.Plain.{plains}
 use Rattle.rl_form.proofs.Lists.{Each, each_more, all, each}
 use Rattle.rl_formed.specs.Laws as laws
 use Rattle.rl_formed.proofs.ResultLaws.{ok_then, same_ok}
-use Rattle.rl_formed.proofs.ActionLaws.{HoldsOfEvent, HoldsOfStatement, all_actions, all_quiet}
+use Rattle.rl_formed.proofs.ActionLaws.{HoldsOfEvent, HoldsOfStatement, HoldsOfOwn, all_actions}
 use Rattle.rl_formed.proofs.SizeLaws.{IsPlainMade, all_plain}
 use Rattle.rl_formed.proofs.NameLaws.{actions_differ, definitions_differ, entries_differ, fewer_entries}
-use Rattle.rl_formed.proofs.EmbeddedLaws.{HoldsOfMade, all_hold}
+use Rattle.rl_formed.proofs.EmbeddedLaws.{EmbedsOwn, own_actions}
 use Rattle.rl_formed.proofs.WrittenLaws.{HoldsOfName, HoldsOfStep, machines_named, all_named}
 use Rattle.rl_formed.proofs.PlaceNameLaws.{anonymous_named}
 use Rattle.rl_formed.proofs.SetLaws.{IsFew, all_few}
@@ -55,9 +55,6 @@ read steps machine draft h =
       defined = j.2;
       is = same_ok (draft_with steps machine (actions_of machine steps) i.0) draft i.2;
     }
-
-pub are_quiet : laws.OfDrafts laws.IsQuiet
-are_quiet steps machine draft h = subst laws.IsQuiet (read steps machine draft h).is (all (λ (a : ActionDef). a.statements ≡ []) (actions_of machine steps) (all_quiet machine steps))
 
 pub have_own_actions : laws.OfDrafts laws.HasOwnActions
 have_own_actions steps machine draft h =
@@ -97,10 +94,10 @@ owns_actions steps machine draft h =
     let d = draft_with steps machine actions r.definitions in
     let count = length actions in
     let same : length r.names ≡ count = ap length (actions_differ actions r.names r.named).0 ∙ length-map actions (λ (a : ActionDef). a.name) in
-    let held = all_hold count d.alphabet (scope_of r.names machine steps) machine steps r.definitions refl same r.defined in
+    let held = own_actions count d.alphabet (scope_of r.names machine steps) machine steps r.definitions refl same r.defined in
     let P = λ (m : Made). All (λ (t : Node). All (IsNumber count) (actions_in t)) (trees_of m.root) in
     subst OwnsActions r.is (record {
-      entries = all P (entries [] (meanings d)) (each_more (HoldsOfMade count d.alphabet) P (entries [] (meanings d))
+      entries = all P (entries [] (meanings d)) (each_more (EmbedsOwn count) P (entries [] (meanings d))
           (λ m k. all (λ (t : Node). All (IsNumber count) (actions_in t)) (trees_of m.root) (each_more (λ t. Each (IsNumber count) (actions_in t)) (λ t. All (IsNumber count) (actions_in t)) (trees_of m.root) (λ t e. all (IsNumber count) (actions_in t) e) k)) held.0);
       conditions = all (λ (a : ActionId). IsNumber count a.0) (all_conditions [] (meanings d)) held.1;
     })
@@ -129,25 +126,25 @@ named_as_written (statement.Access m) h = tt
 named_as_written (statement.Variable m) h = tt
 named_as_written (statement.Write m) h = tt
 
-used_as_written : (e : Event) → laws.IsUsedAsWritten e → HoldsOfEvent IsCalled e
-used_as_written (event.Code w) h = anonymous_named w.place h.0 h.1 h.2
-used_as_written (event.Leaf o) h = tt
-used_as_written (event.Name w) h = tt
-used_as_written (event.Action w) h = tt
-used_as_written (event.Priority w) h = tt
-used_as_written (event.When place) h = tt
-used_as_written (event.Scan place) h = tt
+used_as_written : (entries : List (List ℕ)) (e : Event) → laws.IsUsedAsWritten e → HoldsOfEvent IsCalled entries e
+used_as_written entries (event.Code w) h = anonymous_named w.place h.0.0 h.0.1 h.0.2
+used_as_written entries (event.Leaf o) h = tt
+used_as_written entries (event.Name w) h = tt
+used_as_written entries (event.Action w) h = tt
+used_as_written entries (event.Priority w) h = tt
+used_as_written entries (event.Quiet place a) h = tt
+used_as_written entries (event.Scan place) h = tt
 
-called_as_written : (s : Statement) → laws.IsWritten s → HoldsOfStatement IsCalled s
-called_as_written (statement.Action a) h = ap (λ z. z || is_place a.name.text) h
-called_as_written (statement.Definition d) h =
-    each_more laws.IsUsedAsWritten (HoldsOfEvent IsCalled) (union_events d.value) used_as_written (each laws.IsUsedAsWritten (union_events d.value) h.1)
-called_as_written (statement.Machine m) h = tt
-called_as_written (statement.Include m) h = tt
-called_as_written (statement.Alphtype m) h = tt
-called_as_written (statement.Access m) h = tt
-called_as_written (statement.Variable m) h = tt
-called_as_written (statement.Write m) h = tt
+called_as_written : (entries : List (List ℕ)) (s : Statement) → laws.IsWritten s → HoldsOfStatement IsCalled entries s
+called_as_written entries (statement.Action a) h = ap (λ z. z || is_place a.name.text) h.0
+called_as_written entries (statement.Definition d) h =
+    each_more laws.IsUsedAsWritten (HoldsOfEvent IsCalled entries) (union_events d.value) (used_as_written entries) (each laws.IsUsedAsWritten (union_events d.value) h.1)
+called_as_written entries (statement.Machine m) h = tt
+called_as_written entries (statement.Include m) h = tt
+called_as_written entries (statement.Alphtype m) h = tt
+called_as_written entries (statement.Access m) h = tt
+called_as_written entries (statement.Variable m) h = tt
+called_as_written entries (statement.Write m) h = tt
 
 steps_named : (steps : List Step) → laws.AreWritten steps → Each (HoldsOfStep IsNamed) steps
 steps_named steps h =
@@ -163,8 +160,9 @@ have_named_entries steps machine draft w h =
 pub have_named_actions : laws.OfWritten laws.HasNamedActions
 have_named_actions steps machine draft w h =
     let actions = actions_of machine steps in
+    let entries = entries_of machine steps in
     subst laws.HasNamedActions (read steps machine draft h).is (all IsCalled actions (all_actions IsCalled machine steps
-    (each_more (λ (s : Step). laws.IsWritten s.statement) (λ (s : Step). HoldsOfStatement IsCalled s.statement) steps (λ s k. called_as_written s.statement k) (each (λ (s : Step). laws.IsWritten s.statement) steps w))))
+    (each_more (λ (s : Step). laws.IsWritten s.statement) (HoldsOfOwn IsCalled entries machine) steps (λ s k own. called_as_written entries s.statement k) (each (λ (s : Step). laws.IsWritten s.statement) steps w))))
 
 pub have_named_machines : laws.HaveNamedMachines
 have_named_machines steps w = all IsNamed (machines_of steps) (machines_named IsNamed steps (steps_named steps w))

@@ -1,6 +1,5 @@
--- The actions that entries embed are actions of the machine.
-use Rattle.std.proofs.Common.{◌≡◌, ℕ, zero, suc, ◌+◌, ◌++◌, Bool, true, false, cond, List, [], ◌∷◌, map, length, Option, None, Some, Result, Ok, sym, ap, ◌∙◌, subst, arith}
-use Rattle.std.specs.Prelude.{slice_get, if◌then◌else◌}
+-- What is asked of all that definitions embed holds of the entries that they make, and of the conditions.
+use Rattle.std.proofs.Common.{◌≡◌, ℕ, ◌+◌, Bool, true, false, cond, List, [], ◌∷◌, length, Option, None, Some, Ok, ap, subst, arith}
 use Rattle.std.specs.List.{position}
 use Rattle.std.specs.Str.{bytes_eq}
 use Rattle.std.proofs.lemmas.List.Quantifiers.{position-Some}
@@ -8,10 +7,8 @@ use Rattle.rl_types.specs.declared.alphabet.Alphabet.{Alphabet}
 use Rattle.rl_types.specs.declared.numbers.ActionId.{ActionId}
 use Rattle.rl_types.specs.declared.numbers.Place.{Place}
 use Rattle.rl_types.specs.KeyRange.{Range}
-use Rattle.rl_grammar.specs.declared.read_fault.ReadFault.{ReadFault}
 use Rattle.rl_grammar.specs.declared.syntax.ActionUse.{ActionUse}
 use Rattle.rl_grammar.specs.declared.syntax.ActionUse.TheVariants as action
-use Rattle.rl_grammar.specs.declared.syntax.Definition.{Definition as Written}
 use Rattle.rl_grammar.specs.declared.syntax.Embedding.{Embedding}
 use Rattle.rl_grammar.specs.declared.syntax.Embedding.TheVariants as embedding
 use Rattle.rl_grammar.specs.declared.syntax.Label.{Label}
@@ -19,56 +16,39 @@ use Rattle.rl_grammar.specs.declared.syntax.Label.TheVariants as label
 use Rattle.rl_grammar.specs.declared.syntax.Number.{Number}
 use Rattle.rl_grammar.specs.declared.syntax.Priority.{Priority}
 use Rattle.rl_grammar.specs.declared.syntax.Priority.TheVariants as priority
-use Rattle.rl_grammar.specs.declared.syntax.Scanner.{Scanner, out-Scanner}
 use Rattle.rl_grammar.specs.declared.syntax.Statement.{Statement}
 use Rattle.rl_grammar.specs.declared.syntax.Statement.TheVariants as statement
-use Rattle.rl_grammar.specs.declared.syntax.Union.{Union}
 use Rattle.rl_model.specs.Counts.{actions_in, trees_of}
 use Rattle.rl_model.specs.WellFormed.{IsNumber}
 use Rattle.rl_grammar.specs.declared.step.Step.{Step}
 use Rattle.rl_draft.specs.declared.draft.Definition.{Definition}
-use Rattle.rl_draft.specs.declared.draft.Value.{Value}
-use Rattle.rl_draft.specs.declared.draft.Value.TheVariants as value
-use Rattle.rl_draft.specs.declared.expression.Expression.{Expression}
-use Rattle.rl_draft.specs.declared.expression.Expression.TheFolds.{fold-roll-Expression, fold-roll-Link}
-use Rattle.rl_draft.specs.declared.expression.Expression.TheOpen as level
-use Rattle.rl_draft.specs.declared.expression.Expression.TheVariants as made
-use Rattle.rl_draft.specs.declared.expression.Expression.TheVariants.{rolls-Leaf, rolls-Name, rolls-Chain, rolls-Repeated, rolls-Negated, rolls-Embedded}
 use Rattle.rl_draft.specs.declared.expression.Item.{Item}
-use Rattle.rl_draft.specs.declared.expression.Join.{Join}
-use Rattle.rl_draft.specs.declared.expression.Join.TheVariants as join
 use Rattle.rl_draft.specs.declared.expression.Leaf.{Leaf}
 use Rattle.rl_draft.specs.declared.expression.Leaf.TheVariants as leaf
-use Rattle.rl_draft.specs.declared.expression.Link.{Link}
-use Rattle.rl_draft.specs.declared.expression.Negation.{Negation}
-use Rattle.rl_draft.specs.declared.expression.Negation.TheVariants as negation
 use Rattle.rl_draft.specs.declared.expression.Put.{Put}
 use Rattle.rl_draft.specs.declared.expression.Put.TheVariants as put
-use Rattle.rl_draft.specs.declared.expression.Repetition.{Repetition}
-use Rattle.rl_draft.specs.declared.expression.Repetition.TheVariants as repetition
 use Rattle.rl_draft.specs.declared.expression.Transitions.{Transitions}
 use Rattle.rl_names.specs.Actions.{anonymous_name}
-use Rattle.rl_names.specs.Answers.{and_then, each}
-use Rattle.rl_names.specs.Drafts.{names_of, scope_behind, value_by, value_read, pattern_read, scanner_read, definition_read, definition_behind, definitions_by, definitions_behind, definitions_of}
+use Rattle.rl_names.specs.Answers.{and_then}
+use Rattle.rl_names.specs.Drafts.{scope_behind, definitions_of}
 use Rattle.rl_leaves.specs.BuiltIns.{built_in_leaf}
 use Rattle.rl_names.specs.Events.{Event, union_events}
-use Rattle.rl_names.specs.Expressions.{Scope, number_at, numbered, action_at, action_named, action_read, prioritized, priority_read, label_read, put_read, transitions_of, class_of, kind_of, link, union_told}
+use Rattle.rl_names.specs.Expressions.{Scope, number_at, numbered, action_at, action_named, action_read, prioritized, priority_read, label_read, put_read, transitions_of, class_of, kind_of}
 use Rattle.rl_names.specs.Leaves.{number_read}
 use Rattle.rl_names.specs.Frames.{is_of}
-use Rattle.rl_names.specs.Values.{scanner_of}
 use Rattle.rl_rewrite.specs.Entries.{Made, Meaning, meanings_of, is_entry, entry, entries, made_by, conditions_by, conditions_behind, all_conditions}
+use Rattle.rl_automata.specs.Nodes.{Node}
 use Rattle.rl_rewrite.specs.Walk.{begun}
-use Rattle.rl_rewrite.specs.Plain as p
-use Rattle.rl_rewrite.specs.Plain.{Plain, Operand, joined, repeated, all_repeated, whole, all_negated, starred, character, item, behind, row, leaf_plain, chained, named, expression_step, link_step, plain, operand, value_plain, plains_behind, plains}
+use Rattle.rl_rewrite.specs.Plain.{plains}
 use Rattle.rl_form.proofs.Lists.{Each, each_append}
-use Rattle.rl_formed.proofs.ResultLaws.{ok_then, same_ok, err_or_ok, not_refused, along_keeps, always}
-use Rattle.rl_formed.proofs.ReadLaws.{OfRead, of_ok, of_then, union_holds}
-use Rattle.rl_formed.proofs.PlainLaws.{IsKept, HoldsOfRanges, HoldsOfLeaf, HoldsOfEvents, all_meanings}
-use Rattle.rl_formed.proofs.WalkLaws.{HoldsOfPut, HoldsOf, InConditions, walk_actions}
+use Rattle.rl_formed.proofs.ResultLaws.{ok_then, same_ok, err_or_ok, always}
+use Rattle.rl_formed.proofs.ReadLaws.{OfRead, of_ok, of_then}
+use Rattle.rl_formed.proofs.PlainLaws.{IsKept, HoldsOfRanges, HoldsOfLeaf, HoldsOfEvents, AreScopes, all_meanings}
+use Rattle.rl_formed.proofs.WalkLaws.{Asked, HoldsOfPut, HoldsOf, InConditions, IsKeptBy, walk_holds, all_asked, keeps_actions}
 
 -- ---- an action that is read is one of the machine's
 
-number_found : (place : Place) (o : Option ℕ) (i : ℕ) → number_at place o ≡ Ok i → o ≡ Some i
+pub number_found : (place : Place) (o : Option ℕ) (i : ℕ) → number_at place o ≡ Ok i → o ≡ Some i
 number_found place None i e = absurd (err_or_ok _ i e)
 number_found place (Some j) i e = ap (λ z. Some z) (same_ok j i e)
 
@@ -93,7 +73,7 @@ module _ (k : Scope) where
   one_read (action.Code w) = one_named w.place (anonymous_name w.place)
 
   abbrev HoldsPut : Put → Type 0
-  HoldsPut q = HoldsOfPut IsOne q
+  HoldsPut q = HoldsOfPut (all_asked IsOne) q
 
   priority_holds : (ts : Transitions) (place : Place) (name : List ℕ) (n : Number) → OfRead HoldsPut (prioritized k ts place name n)
   priority_holds ts place name n =
@@ -134,10 +114,11 @@ any_leaf leaf.Null = tt
 any_leaf leaf.Nothing = tt
 any_leaf (leaf.Row items) = any_items items
 
-abbrev pub AnyEvent : Event → Type 0
-AnyEvent e = Unit {0}
+-- and any event, at one index
+abbrev pub AnyEvent : Unit {0} → Event → Type 0
+AnyEvent i e = Unit {0}
 
-any_statement : (s : Statement) → HoldsOfEvents AnyEvent s
+any_statement : (s : Statement) → HoldsOfEvents (AnyEvent tt) s
 any_statement (statement.Definition d) = always (union_events d.value)
 any_statement (statement.Action a) = tt
 any_statement (statement.Machine m) = tt
@@ -147,15 +128,12 @@ any_statement (statement.Access m) = tt
 any_statement (statement.Variable m) = tt
 any_statement (statement.Write m) = tt
 
-pub any_steps : (steps : List Step) → Each (λ (s : Step). HoldsOfEvents AnyEvent s.statement) steps
-any_steps [] = tt
-any_steps (s ∷ ss) = (any_statement s.statement, any_steps ss)
+pub any_steps : (machine : List ℕ) (steps : List Step) → Each (λ (s : Step). is_of machine s ≡ true → (i : Unit {0}) × HoldsOfEvents (AnyEvent i) s.statement) steps
+any_steps machine [] = tt
+any_steps machine (s ∷ ss) = ((λ own. (tt, any_statement s.statement)), any_steps machine ss)
 
-module _ (count : ℕ) (alphabet : Alphabet) where
-  abbrev IsOneOf : ℕ → Type 0
-  IsOneOf n = IsNumber count n
-
-  kept : IsKept alphabet (HoldsOf IsOneOf) (HoldsOfPut IsOneOf)
+module _ (A : Asked) (InTree : Node → Type 0) (keeps : IsKeptBy A InTree) (alphabet : Alphabet) where
+  kept : IsKept alphabet (HoldsOf A) (HoldsOfPut A)
   kept = record {
     empty = λ at. tt;
     none = λ at. tt;
@@ -168,20 +146,17 @@ module _ (count : ℕ) (alphabet : Alphabet) where
   }
 
   abbrev HoldsOfMeaning : Meaning → Type 0
-  HoldsOfMeaning m = HoldsOf IsOneOf m.plain
+  HoldsOfMeaning m = HoldsOf A m.plain
 
-  -- each action that it embeds is one of so many
+  -- each of its trees is such a one
   abbrev pub HoldsOfMade : Made → Type 0
-  HoldsOfMade m = Each (λ t. Each IsOneOf (actions_in t)) (trees_of m.root)
+  HoldsOfMade m = Each InTree (trees_of m.root)
 
-  abbrev pub HoldsOfConditions : List ActionId → Type 0
-  HoldsOfConditions cs = InConditions IsOneOf cs
-
-  made_case : (b : Bool) (cs : List ActionId) (m : Meaning) → HoldsOfMeaning m → HoldsOfConditions cs → Each HoldsOfMade (cond b (entry cs m ∷ []) []) × HoldsOfConditions (cond b (conditions_behind cs m) cs)
-  made_case true cs m h g = let w = walk_actions IsOneOf m.plain (begun cs) h g in (((w.0, tt), tt), w.1)
+  made_case : (b : Bool) (cs : List ActionId) (m : Meaning) → HoldsOfMeaning m → InConditions A cs → Each HoldsOfMade (cond b (entry cs m ∷ []) []) × InConditions A (cond b (conditions_behind cs m) cs)
+  made_case true cs m h g = let w = walk_holds A InTree keeps m.plain (begun cs) h g in (((w.0, tt), tt), w.1)
   made_case false cs m h g = (tt, g)
 
-  entries_hold : (cs : List ActionId) (ms : List Meaning) → Each HoldsOfMeaning ms → HoldsOfConditions cs → Each HoldsOfMade (entries cs ms) × HoldsOfConditions (all_conditions cs ms)
+  entries_hold : (cs : List ActionId) (ms : List Meaning) → Each HoldsOfMeaning ms → InConditions A cs → Each HoldsOfMade (entries cs ms) × InConditions A (all_conditions cs ms)
   entries_hold cs [] h g = (tt, g)
   entries_hold cs (m ∷ ms) h g =
       let one = made_case (is_entry m.sign) cs m h.0 g in
@@ -189,10 +164,22 @@ module _ (count : ℕ) (alphabet : Alphabet) where
       (each_append HoldsOfMade (made_by cs m) (entries (conditions_by cs m) ms) one.0 more.0, more.1)
 
   -- of all entries, and of the conditions
-  pub all_hold : (k : Scope) (machine : List ℕ) (steps : List Step) (ds : List Definition) → k.alphabet ≡ alphabet → length k.actions ≡ count → definitions_of k machine steps ≡ Ok ds
-      → Each HoldsOfMade (entries [] (meanings_of ds (plains alphabet ds))) × HoldsOfConditions (all_conditions [] (meanings_of ds (plains alphabet ds)))
-  all_hold k machine steps ds known same e =
-      let puts = λ (names : List (List ℕ)) (earlier : List Definition) (owner : List ℕ). subst (λ z. (m : Embedding) → OfRead (HoldsOfPut (λ n. IsNumber z n)) (put_read (scope_behind k names earlier owner) m)) same (puts_hold (scope_behind k names earlier owner)) in
+  pub all_hold : (I : Type 0) (B : I → Event → Type 0) (k : Scope) (machine : List ℕ) (steps : List Step) (ds : List Definition) → ((i : I) → AreScopes alphabet (HoldsOfPut A) (B i) k) → Each (λ (s : Step). is_of machine s ≡ true → (i : I) × HoldsOfEvents (B i) s.statement) steps
+      → definitions_of k machine steps ≡ Ok ds
+      → Each HoldsOfMade (entries [] (meanings_of ds (plains alphabet ds))) × InConditions A (all_conditions [] (meanings_of ds (plains alphabet ds)))
+  all_hold I B k machine steps ds scopes events e =
       entries_hold [] (meanings_of ds (plains alphabet ds))
-      (all_meanings alphabet (HoldsOf IsOneOf) (HoldsOfPut IsOneOf) Any kept (λ ranges at u. tt) AnyEvent (λ o l b r. any_leaf l) (λ b. any_leaf (built_in_leaf alphabet b))
-      k machine steps ds (λ names earlier owner. (known, puts names earlier owner)) (any_steps steps) e) tt
+      (all_meanings alphabet (HoldsOf A) (HoldsOfPut A) Any kept (λ ranges at u. tt) I B (λ i o l b r. any_leaf l) (λ b. any_leaf (built_in_leaf alphabet b)) k machine steps ds scopes events e) tt
+
+-- ---- all actions are those of the machine
+
+-- each action that it embeds is one of so many
+abbrev pub EmbedsOwn : ℕ → Made → Type 0
+EmbedsOwn count m = Each (λ t. Each (IsNumber count) (actions_in t)) (trees_of m.root)
+
+pub own_actions : (count : ℕ) (alphabet : Alphabet) (k : Scope) (machine : List ℕ) (steps : List Step) (ds : List Definition) → k.alphabet ≡ alphabet → length k.actions ≡ count → definitions_of k machine steps ≡ Ok ds
+    → Each (EmbedsOwn count) (entries [] (meanings_of ds (plains alphabet ds))) × Each (λ (a : ActionId). IsNumber count a.0) (all_conditions [] (meanings_of ds (plains alphabet ds)))
+own_actions count alphabet k machine steps ds known same e =
+    let puts = λ (names : List (List ℕ)) (earlier : List Definition) (owner : List ℕ). subst (λ z. (m : Embedding) → OfRead (HoldsOfPut (all_asked (IsNumber z))) (put_read (scope_behind k names earlier owner) m)) same (puts_hold (scope_behind k names earlier owner)) in
+    all_hold (all_asked (IsNumber count)) (λ t. Each (IsNumber count) (actions_in t)) (keeps_actions (IsNumber count)) alphabet (Unit {0}) AnyEvent k machine steps ds
+    (λ i names earlier owner. (known, (λ m b. puts names earlier owner m))) (any_steps machine steps) e

@@ -1,5 +1,5 @@
 -- Actions and `write` statements stand in the files of their statements.
-use Rattle.std.proofs.Common.{◌≡◌, ℕ, ◌<◌, Bool, true, false, List, [], ◌∷◌, ◌++◌}
+use Rattle.std.proofs.Common.{ℕ, ◌<◌, Bool, true, false, List, [], ◌∷◌}
 use Rattle.std.specs.Prelude.{fold, if◌then◌else◌}
 use Rattle.rl_grammar.specs.declared.syntax.Statement.{Statement}
 use Rattle.rl_grammar.specs.declared.syntax.Statement.TheVariants as statement
@@ -7,12 +7,13 @@ use Rattle.rl_model.specs.declared.spec.ActionDef.{ActionDef}
 use Rattle.rl_model.specs.declared.spec.Write.{Write}
 use Rattle.rl_grammar.specs.declared.step.Step.{Step}
 use Rattle.rl_names.specs.Actions.{actions_of}
+use Rattle.rl_names.specs.Entries.{entries_of}
 use Rattle.rl_names.specs.Events.{Event, union_events}
 use Rattle.rl_names.specs.Events as event
 use Rattle.rl_names.specs.Frames.{is_own, kind_written, write_by, write_behind, writes_of}
 use Rattle.rl_form.proofs.Lists.{Each, each_append, each_more, each}
 use Rattle.rl_formed.specs.Laws.{IsUsedIn, StandsIn}
-use Rattle.rl_formed.proofs.ActionLaws.{HoldsOfEvent, HoldsOfStatement, all_actions}
+use Rattle.rl_formed.proofs.ActionLaws.{HoldsOfEvent, HoldsOfStatement, HoldsOfOwn, all_actions}
 
 module _ (count : ℕ) where
   abbrev pub IsActionIn : ActionDef → Type 0
@@ -26,27 +27,29 @@ module _ (count : ℕ) where
 
   -- ---- actions
 
-  event_in : (e : Event) → IsUsedIn count e → HoldsOfEvent IsActionIn e
-  event_in (event.Code w) h = h
-  event_in (event.Leaf o) h = tt
-  event_in (event.Name w) h = tt
-  event_in (event.Action w) h = tt
-  event_in (event.Priority w) h = tt
-  event_in (event.When place) h = tt
-  event_in (event.Scan place) h = tt
+  event_in : (entries : List (List ℕ)) (e : Event) → IsUsedIn count e → HoldsOfEvent IsActionIn entries e
+  event_in entries (event.Code w) h = h
+  event_in entries (event.Leaf o) h = tt
+  event_in entries (event.Name w) h = tt
+  event_in entries (event.Action w) h = tt
+  event_in entries (event.Priority w) h = tt
+  event_in entries (event.Quiet place a) h = tt
+  event_in entries (event.Scan place) h = tt
 
-  statement_in : (s : Statement) → StandsIn count s → HoldsOfStatement IsActionIn s
-  statement_in (statement.Action a) h = h
-  statement_in (statement.Definition d) h = each_more (IsUsedIn count) (HoldsOfEvent IsActionIn) (union_events d.value) event_in (each (IsUsedIn count) (union_events d.value) h)
-  statement_in (statement.Machine m) h = tt
-  statement_in (statement.Include m) h = tt
-  statement_in (statement.Alphtype m) h = tt
-  statement_in (statement.Access m) h = tt
-  statement_in (statement.Variable m) h = tt
-  statement_in (statement.Write m) h = tt
+  statement_in : (entries : List (List ℕ)) (s : Statement) → StandsIn count s → HoldsOfStatement IsActionIn entries s
+  statement_in entries (statement.Action a) h = h
+  statement_in entries (statement.Definition d) h = each_more (IsUsedIn count) (HoldsOfEvent IsActionIn entries) (union_events d.value) (event_in entries) (each (IsUsedIn count) (union_events d.value) h)
+  statement_in entries (statement.Machine m) h = tt
+  statement_in entries (statement.Include m) h = tt
+  statement_in entries (statement.Alphtype m) h = tt
+  statement_in entries (statement.Access m) h = tt
+  statement_in entries (statement.Variable m) h = tt
+  statement_in entries (statement.Write m) h = tt
 
   pub actions_in : (machine : List ℕ) (steps : List Step) → Each IsStepIn steps → Each IsActionIn (actions_of machine steps)
-  actions_in machine steps h = all_actions IsActionIn machine steps (each_more IsStepIn (λ (s : Step). HoldsOfStatement IsActionIn s.statement) steps (λ s k. statement_in s.statement k) h)
+  actions_in machine steps h =
+      let entries = entries_of machine steps in
+      all_actions IsActionIn machine steps (each_more IsStepIn (HoldsOfOwn IsActionIn entries machine) steps (λ s k own. statement_in entries s.statement k) h)
 
   -- ---- writes
 

@@ -8,8 +8,14 @@ pub mod LeafLaws
 pub mod ReadLaws
 pub mod PlainLaws
 pub mod EmbeddedLaws
+pub mod TurnLaws
+pub mod CodeLaws
+pub mod FaultLaws
+pub mod QuietLaws
+pub mod EntryNameLaws
 pub mod SetLaws
 pub mod WrittenLaws
 pub mod PlaceNameLaws
 pub mod FileLaws
 pub mod DraftLaws
+pub mod StatementLaws

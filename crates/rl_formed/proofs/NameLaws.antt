@@ -28,7 +28,7 @@ use Rattle.rl_formed.proofs.ResultLaws.{ok_then, same_ok, not_refused, along_kee
 
 -- ---- a name that is not found
 
-or_false : (a b : Bool) → (a || b) ≡ false → (a ≡ false) × (b ≡ false)
+pub or_false : (a b : Bool) → (a || b) ≡ false → (a ≡ false) × (b ≡ false)
 or_false true b h = absurd (cc)
 or_false false b h = (refl, h)
 

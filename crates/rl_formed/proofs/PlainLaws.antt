@@ -1,5 +1,5 @@
 -- What every operator keeps holds of each definition's expression.
-use Rattle.std.proofs.Common.{◌≡◌, ℕ, zero, suc, ◌++◌, Bool, true, false, cond, List, [], ◌∷◌, map, Option, None, Some, Result, Ok, sym, ap, ◌∙◌, subst}
+use Rattle.std.proofs.Common.{◌≡◌, ℕ, zero, suc, ◌++◌, Bool, true, false, cond, List, [], ◌∷◌, map, Option, None, Some, Result, Ok, refl, sym, ap, ◌∙◌, subst}
 use Rattle.std.specs.Prelude.{slice_get, if◌then◌else◌}
 use Rattle.rl_types.specs.declared.alphabet.Alphabet.{Alphabet}
 use Rattle.rl_types.specs.declared.numbers.Place.{Place}
@@ -175,7 +175,7 @@ module _ (alphabet : Alphabet) (H : Plain → Type 0) (Q : Put → Type 0) (S : 
     of_link j e h = subst (λ (o : Operand). H o.plain) (sym (fold-roll-Link Plain Operand (expression_step alphabet known) link_step (record { join = j; operand = e }))) h
 
     union_plain : (k : Scope) → k.alphabet ≡ alphabet → (B : Event → Type 0) → ((o : Written_Operand) (l : Leaf) → B (events.Leaf o) → leaf_read alphabet o ≡ Ok l → HoldsOfLeaf S l) → ((b : BuiltIn) → HoldsOfLeaf S (built_in_leaf alphabet b))
-        → ((m : Embedding) → OfRead Q (put_read k m)) → (u : Union) → Each B (events.union_events u) → OfRead Holds (union_told k u).read
+        → ((m : Embedding) → Each B (events.embedding_events m) → OfRead Q (put_read k m)) → (u : Union) → Each B (events.union_events u) → OfRead Holds (union_told k u).read
     union_plain k same B leaves built_ins puts u h =
         union_holds k Holds HoldsLink Q B
         (λ o l at b e. of_leaf l at (leaves o l b (subst (λ z. leaf_read z o ≡ Ok l) same e))) (λ b at. of_leaf (built_in_leaf k.alphabet b) at (subst (λ z. HoldsOfLeaf S (built_in_leaf z b)) (sym same) (built_ins b)))
@@ -183,27 +183,33 @@ module _ (alphabet : Alphabet) (H : Plain → Type 0) (Q : Put → Type 0) (S : 
 
 -- ---- definitions
 
--- such scopes have the alphabet, and read such embeddings
-abbrev pub IsScope : Alphabet → (Put → Type 0) → Scope → Type 0
-IsScope alphabet Q k = (k.alphabet ≡ alphabet) × ((m : Embedding) → OfRead Q (put_read k m))
+-- such scopes have the alphabet, and read such embeddings where their events are such
+abbrev pub IsScope : Alphabet → (Put → Type 0) → (Event → Type 0) → Scope → Type 0
+IsScope alphabet Q B k = (k.alphabet ≡ alphabet) × ((m : Embedding) → Each B (events.embedding_events m) → OfRead Q (put_read k m))
 
 -- however a definition is read, its scope is such a one
-abbrev pub AreScopes : Alphabet → (Put → Type 0) → Scope → Type 0
-AreScopes alphabet Q k = (names : List (List ℕ)) (earlier : List Definition) (owner : List ℕ) → IsScope alphabet Q (scope_behind k names earlier owner)
+abbrev pub AreScopes : Alphabet → (Put → Type 0) → (Event → Type 0) → Scope → Type 0
+AreScopes alphabet Q B k = (names : List (List ℕ)) (earlier : List Definition) (owner : List ℕ) → IsScope alphabet Q B (scope_behind k names earlier owner)
 
 -- the events of the expressions of a statement are such
 abbrev pub HoldsOfEvents : (Event → Type 0) → Statement → Type 0
 HoldsOfEvents B (statement.Definition d) = Each B (events.union_events d.value)
 HoldsOfEvents B _ = Unit {0}
 
+-- behind definitions of which it holds, it holds of the value
+abbrev HoldsOfValueBy : Alphabet → (Plain → Type 0) → Value → Type 0
+HoldsOfValueBy alphabet H v = (known : List Plain) → Each H known → H (value_plain alphabet known v)
+
+abbrev HoldsOfDefinitionBy : Alphabet → (Plain → Type 0) → Definition → Type 0
+HoldsOfDefinitionBy alphabet H d = HoldsOfValueBy alphabet H d.value
+
 module _ (alphabet : Alphabet) (H : Plain → Type 0) (Q : Put → Type 0) (S : List Range → Type 0) (kept : IsKept alphabet H Q) (of_set : (ranges : List Range) (at : Place) → S ranges → H (p.Set ranges at))
     (B : Event → Type 0) (leaves : (o : Written_Operand) (l : Leaf) → B (events.Leaf o) → leaf_read alphabet o ≡ Ok l → HoldsOfLeaf S l) (built_ins : (b : BuiltIn) → HoldsOfLeaf S (built_in_leaf alphabet b)) where
-  -- behind definitions of which it holds, it holds of the value
   abbrev HoldsOfValue : Value → Type 0
-  HoldsOfValue v = (known : List Plain) → Each H known → H (value_plain alphabet known v)
+  HoldsOfValue v = HoldsOfValueBy alphabet H v
 
   abbrev HoldsOfDefinition : Definition → Type 0
-  HoldsOfDefinition d = HoldsOfValue d.value
+  HoldsOfDefinition d = HoldsOfDefinitionBy alphabet H d
 
   scanner_holds : (k : Scope) (s : Scanner) → OfRead HoldsOfValue (scanner_read k s)
   scanner_holds k s =
@@ -211,18 +217,18 @@ module _ (alphabet : Alphabet) (H : Plain → Type 0) (Q : Put → Type 0) (S : 
       (λ q u. of_then (λ qs. Unit {0}) HoldsOfValue (each (pattern_read k) (out-Scanner s).rest) (λ qs. Ok (value.Scanner (q ∷ qs))) (λ qs e. tt)
       (λ qs w. of_ok HoldsOfValue (value.Scanner (q ∷ qs)) (λ known h. kept.none no_place)))
 
-  value_holds_by : (k : Scope) (u : Union) (s : Option Scanner) → IsScope alphabet Q k → Each B (events.union_events u) → OfRead HoldsOfValue (value_by k u s)
+  value_holds_by : (k : Scope) (u : Union) (s : Option Scanner) → IsScope alphabet Q B k → Each B (events.union_events u) → OfRead HoldsOfValue (value_by k u s)
   value_holds_by k u None scope b =
       of_then (λ e. HoldsOfValue (value.Expression e)) HoldsOfValue (union_told k u).read (λ e. Ok (value.Expression e))
       (λ e q known h. union_plain alphabet H Q S kept of_set known h k scope.0 B leaves built_ins scope.1 u b e q)
       (λ e h. of_ok HoldsOfValue (value.Expression e) h)
   value_holds_by k u (Some s) scope b = scanner_holds k s
 
-  definition_holds : (k : Scope) (d : Written) → IsScope alphabet Q k → Each B (events.union_events d.value) → OfRead HoldsOfDefinition (definition_read k d)
+  definition_holds : (k : Scope) (d : Written) → IsScope alphabet Q B k → Each B (events.union_events d.value) → OfRead HoldsOfDefinition (definition_read k d)
   definition_holds k d scope b =
       of_then HoldsOfValue HoldsOfDefinition (value_read k d.value) _ (value_holds_by k d.value (scanner_of d.value) scope b) (λ v h. of_ok HoldsOfDefinition _ h)
 
-  one_more : (k : Scope) (earlier : List Definition) (d : Written) (ds : List Definition) → AreScopes alphabet Q k → Each B (events.union_events d.value) → definition_behind k earlier d ≡ Ok ds → Each HoldsOfDefinition earlier → Each HoldsOfDefinition ds
+  one_more : (k : Scope) (earlier : List Definition) (d : Written) (ds : List Definition) → AreScopes alphabet Q B k → Each B (events.union_events d.value) → definition_behind k earlier d ≡ Ok ds → Each HoldsOfDefinition earlier → Each HoldsOfDefinition ds
   one_more k earlier d ds scopes b e h =
       let n = not_refused _ _ _ ds e in
       let i = ok_then (definition_read (scope_behind k (names_of earlier) earlier d.name.text) d) (λ x. Ok (earlier ++ x ∷ [])) ds n.1 in
@@ -232,7 +238,7 @@ module _ (alphabet : Alphabet) (H : Plain → Type 0) (Q : Put → Type 0) (S : 
   no_more : (earlier ds : List Definition) → ◌≡◌ {A = Result (List Definition) ReadFault} (Ok earlier) (Ok ds) → Each HoldsOfDefinition earlier → Each HoldsOfDefinition ds
   no_more earlier ds e h = subst (Each HoldsOfDefinition) (same_ok earlier ds e) h
 
-  by_statement : (k : Scope) (s : Statement) (earlier ds : List Definition) → AreScopes alphabet Q k → HoldsOfEvents B s → definitions_by k earlier s ≡ Ok ds → Each HoldsOfDefinition earlier → Each HoldsOfDefinition ds
+  by_statement : (k : Scope) (s : Statement) (earlier ds : List Definition) → AreScopes alphabet Q B k → HoldsOfEvents B s → definitions_by k earlier s ≡ Ok ds → Each HoldsOfDefinition earlier → Each HoldsOfDefinition ds
   by_statement k (statement.Definition d) earlier ds scopes b e h = one_more k earlier d ds scopes b e h
   by_statement k (statement.Action a) earlier ds scopes b e h = no_more earlier ds e h
   by_statement k (statement.Machine m) earlier ds scopes b e h = no_more earlier ds e h
@@ -242,15 +248,26 @@ module _ (alphabet : Alphabet) (H : Plain → Type 0) (Q : Put → Type 0) (S : 
   by_statement k (statement.Variable m) earlier ds scopes b e h = no_more earlier ds e h
   by_statement k (statement.Write m) earlier ds scopes b e h = no_more earlier ds e h
 
-  by_case : (b : Bool) (k : Scope) (s : Statement) (earlier ds : List Definition) → AreScopes alphabet Q k → HoldsOfEvents B s → (if b then definitions_by k earlier s else Ok earlier) ≡ Ok ds → Each HoldsOfDefinition earlier → Each HoldsOfDefinition ds
-  by_case true k s earlier ds scopes b e h = by_statement k s earlier ds scopes b e h
-  by_case false k s earlier ds scopes b e h = no_more earlier ds e h
+-- the events of the expressions of each statement are such, at some index of its own
+module _ (alphabet : Alphabet) (H : Plain → Type 0) (Q : Put → Type 0) (S : List Range → Type 0) (kept : IsKept alphabet H Q) (of_set : (ranges : List Range) (at : Place) → S ranges → H (p.Set ranges at))
+    (I : Type 0) (B : I → Event → Type 0) (leaves : (i : I) (o : Written_Operand) (l : Leaf) → B i (events.Leaf o) → leaf_read alphabet o ≡ Ok l → HoldsOfLeaf S l) (built_ins : (b : BuiltIn) → HoldsOfLeaf S (built_in_leaf alphabet b)) where
+  abbrev HoldsOfOne : Definition → Type 0
+  HoldsOfOne d = HoldsOfDefinitionBy alphabet H d
 
-  definitions_hold : (k : Scope) (machine : List ℕ) (steps : List Step) (ds : List Definition) → AreScopes alphabet Q k → Each (λ (s : Step). HoldsOfEvents B s.statement) steps → definitions_of k machine steps ≡ Ok ds → Each HoldsOfDefinition ds
+  -- at some index the events of a step of the machine are such
+  abbrev pub HoldsOfStep : List ℕ → Step → Type 0
+  HoldsOfStep machine s = is_of machine s ≡ true → (i : I) × HoldsOfEvents (B i) s.statement
+
+  by_case : (b : Bool) (k : Scope) (s : Statement) (earlier ds : List Definition) → ((i : I) → AreScopes alphabet Q (B i) k) → (b ≡ true → (i : I) × HoldsOfEvents (B i) s) → (if b then definitions_by k earlier s else Ok earlier) ≡ Ok ds
+      → Each HoldsOfOne earlier → Each HoldsOfOne ds
+  by_case true k s earlier ds scopes b e h = let u = b refl in by_statement alphabet H Q S kept of_set (B u.0) (leaves u.0) built_ins k s earlier ds (scopes u.0) u.1 e h
+  by_case false k s earlier ds scopes b e h = subst (Each HoldsOfOne) (same_ok earlier ds e) h
+
+  definitions_hold : (k : Scope) (machine : List ℕ) (steps : List Step) (ds : List Definition) → ((i : I) → AreScopes alphabet Q (B i) k) → Each (HoldsOfStep machine) steps → definitions_of k machine steps ≡ Ok ds → Each HoldsOfOne ds
   definitions_hold k machine steps ds scopes b e =
-      along_keeps (Each HoldsOfDefinition) (λ (s : Step). HoldsOfEvents B s.statement) (definitions_behind k machine) (λ earlier s t u q h. by_case (is_of machine s) k s.statement earlier t scopes u q h) [] steps ds b e tt
+      along_keeps (Each HoldsOfOne) (HoldsOfStep machine) (definitions_behind k machine) (λ earlier s t u q h. by_case (is_of machine s) k s.statement earlier t scopes u q h) [] steps ds b e tt
 
-  plains_hold : (known : List Plain) (ds : List Definition) → Each H known → Each HoldsOfDefinition ds → Each H (plains_behind alphabet known ds)
+  plains_hold : (known : List Plain) (ds : List Definition) → Each H known → Each HoldsOfOne ds → Each H (plains_behind alphabet known ds)
   plains_hold known [] h g = h
   plains_hold known (d ∷ ds) h g =
       let v = value_plain alphabet known d.value in
@@ -262,6 +279,6 @@ module _ (alphabet : Alphabet) (H : Plain → Type 0) (Q : Put → Type 0) (S : 
   meanings_hold (d ∷ ds) (q ∷ ps) h = (h.0, meanings_hold ds ps h.1)
 
   -- it holds of what each definition stands for
-  pub all_meanings : (k : Scope) (machine : List ℕ) (steps : List Step) (ds : List Definition) → AreScopes alphabet Q k → Each (λ (s : Step). HoldsOfEvents B s.statement) steps → definitions_of k machine steps ≡ Ok ds
+  pub all_meanings : (k : Scope) (machine : List ℕ) (steps : List Step) (ds : List Definition) → ((i : I) → AreScopes alphabet Q (B i) k) → Each (HoldsOfStep machine) steps → definitions_of k machine steps ≡ Ok ds
       → Each (λ (m : Meaning). H m.plain) (meanings_of ds (plains alphabet ds))
   all_meanings k machine steps ds scopes b e = meanings_hold ds (plains alphabet ds) (plains_hold [] ds tt (definitions_hold k machine steps ds scopes b e))

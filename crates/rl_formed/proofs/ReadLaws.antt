@@ -42,7 +42,7 @@ use Rattle.rl_names.specs.Events as events
 use Rattle.rl_names.specs.Places.{number_place, key_place}
 use Rattle.rl_names.specs.Leaves.{leaf_read, layer_leaf, literal_read, number_leaf, range_between, set_read, regular_read}
 use Rattle.rl_form.proofs.Lists.{Each, each_map, each_front, each_behind}
-use Rattle.rl_formed.proofs.ResultLaws.{ok_then, same_ok, err_or_ok, each_read}
+use Rattle.rl_formed.proofs.ResultLaws.{ok_then, same_ok, err_or_ok}
 
 -- it holds of what is read, if anything is
 abbrev pub OfRead : {A : Type 0} → (A → Type 0) → Result A ReadFault → Type 0
@@ -74,7 +74,7 @@ module _ (k : Scope) (P : Expression → Type 0) (PL : Link → Type 0) (Q : Put
     (puts_hold : (ps : List Put) (at : Place) (e : Expression) → P e → Each Q ps → P (made.Embedded e ps at))
     (chain_holds : (ls : List Link) (at : Place) (e : Expression) → P e → Each PL ls → P (made.Chain e ls at))
     (link_holds : (j : Join) (e : Expression) → P e → PL (link j e))
-    (put_holds : (m : Embedding) → OfRead Q (put_read k m)) where
+    (put_holds : (m : Embedding) → Each B (events.embedding_events m) → OfRead Q (put_read k m)) where
   -- ---- one level
 
   of_leaf : (at : Place) (o : Operand) (read : Result Leaf ReadFault) → B (events.Leaf o) → leaf_read k.alphabet o ≡ read → OfRead P (leaf_at at read)
@@ -92,6 +92,13 @@ module _ (k : Scope) (P : Expression → Type 0) (PL : Link → Type 0) (Q : Put
   of_named : (w : Word) (b : Option BuiltIn) → OfRead P (name_by k w b)
   of_named w (Some b) = of_ok P (made.Leaf (built_in_leaf k.alphabet b) w.place) (built_in_holds b w.place)
   of_named w None = of_then (λ i. Unit {0}) P (numbered w.place w.text k.names) (λ i. definition_used w.place i (slice_get k.earlier i)) (λ i e. tt) (λ i h. of_used w.place i (slice_get k.earlier i))
+
+  of_embeddings : (ms : List Embedding) → Each B (flat_map events.embedding_events ms) → OfRead (Each Q) (each (put_read k) ms)
+  of_embeddings [] b = of_ok (Each Q) [] tt
+  of_embeddings (m ∷ ms) b =
+      of_then Q (Each Q) (put_read k m) (λ q. and_then (each (put_read k) ms) (λ qs. Ok (q ∷ qs))) (put_holds m (each_front B (events.embedding_events m) (flat_map events.embedding_events ms) b))
+      (λ q h. of_then (Each Q) (Each Q) (each (put_read k) ms) (λ qs. Ok (q ∷ qs)) (of_embeddings ms (each_behind B (events.embedding_events m) (flat_map events.embedding_events ms) b))
+      (λ qs hs. of_ok (Each Q) (q ∷ qs) (h, hs)))
 
   of_negations : (ns : List NegationSign) (e : Expression) → P e → P (with_negations ns e)
   of_negations [] e h = h
@@ -199,7 +206,7 @@ module _ (k : Scope) (P : Expression → Type 0) (PL : Link → Type 0) (Q : Put
       (let g = subst (Each B) (fold-roll-ConcatenationPart Found Found Found Found Found Found Found Found Found Found events.operand_step events.concatenation_step events.concatenation_part_step events.embedded_step events.negated_step events.pattern_step events.repeated_step events.scanner_step events.union_step events.union_part_step p) h in of_part (joined_by p.sign) (x.embedded_told k p.operand).read (subst (λ z. HasEmbedded z.operand) is y.operand.1 g)))
       (λ m y is h. subst (λ (t : Told). OfRead P t.read) (sym (fold-roll-Embedded Told Told Joined Told Told Place Told Place Told Joined (x.operand_step k) (x.concatenation_step k) (x.concatenation_part_step k) (x.embedded_step k) (x.negated_step k) (x.pattern_step k) (x.repeated_step k) (x.scanner_step k) (x.union_step k) (x.union_part_step k) m))
       (let g = subst (Each B) (fold-roll-Embedded Found Found Found Found Found Found Found Found Found Found events.operand_step events.concatenation_step events.concatenation_part_step events.embedded_step events.negated_step events.pattern_step events.repeated_step events.scanner_step events.union_step events.union_part_step m) h in of_then P P (x.repeated_told k m.operand).read _ (subst (λ z. HasRepeated z.operand) is y.operand.1 (each_front B (events.repeated_events m.operand) (flat_map events.embedding_events m.embeddings) g))
-      (λ e f. of_then (Each Q) P (each (put_read k) m.embeddings) _ (λ ps r. each_read Q (put_read k) put_holds m.embeddings ps r) (λ ps fs. of_ok P _ (of_puts ps (x.repeated_told k m.operand).place e f fs)))))
+      (λ e f. of_then (Each Q) P (each (put_read k) m.embeddings) _ (λ ps r. of_embeddings m.embeddings (each_behind B (events.repeated_events m.operand) (flat_map events.embedding_events m.embeddings) g) ps r) (λ ps fs. of_ok P _ (of_puts ps (x.repeated_told k m.operand).place e f fs)))))
       (λ n y is h. subst (λ (t : Told). OfRead P t.read) (sym (fold-roll-Negated Told Told Joined Told Told Place Told Place Told Joined (x.operand_step k) (x.concatenation_step k) (x.concatenation_part_step k) (x.embedded_step k) (x.negated_step k) (x.pattern_step k) (x.repeated_step k) (x.scanner_step k) (x.union_step k) (x.union_part_step k) n))
       (let g = subst (Each B) (fold-roll-Negated Found Found Found Found Found Found Found Found Found Found events.operand_step events.concatenation_step events.concatenation_part_step events.embedded_step events.negated_step events.pattern_step events.repeated_step events.scanner_step events.union_step events.union_part_step n) h in of_then P P (x.operand_told k n.operand).read _ (subst (λ z. HasOperand z.operand) is y.operand.1 g) (λ e f. of_ok P _ (of_negations (map negation_of n.negations) e f))))
       (λ p y is. tt)

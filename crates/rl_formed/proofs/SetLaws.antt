@@ -77,8 +77,8 @@ module _ (alphabet : Alphabet) where
       → Each (λ (x : Made). Each IsFew (flat_map sets_in (trees_of x.root))) (entries [] (meanings_of ds (plains alphabet ds)))
   all_few_by any k machine steps ds same e =
       entries_few [] (meanings_of ds (plains alphabet ds))
-      (all_meanings alphabet (AreSets IsFew) (λ q. Unit {0}) IsFew (kept any) (λ ranges at h. h) AnyEvent (λ o l b r. leaf_few l (leaf_form alphabet o l r)) (λ b. leaf_few (built_in_leaf alphabet b) (built_in_form alphabet b))
-      k machine steps ds (λ names earlier owner. (same, (λ m a r. tt))) (any_steps steps) e)
+      (all_meanings alphabet (AreSets IsFew) (λ q. Unit {0}) IsFew (kept any) (λ ranges at h. h) (Unit {0}) AnyEvent (λ i o l b r. leaf_few l (leaf_form alphabet o l r)) (λ b. leaf_few (built_in_leaf alphabet b) (built_in_form alphabet b))
+      k machine steps ds (λ i names earlier owner. (same, (λ m b a r. tt))) (any_steps machine steps) e)
 
 -- every key of an alphabet is one of its keys
 any_within : (alphabet : Alphabet) → IsInAlphabet alphabet (record { lo = least_key alphabet; hi = greatest_key alphabet })

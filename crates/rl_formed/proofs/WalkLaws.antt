@@ -1,15 +1,19 @@
--- The actions in a walk's tree, and its conditions, are those that are embedded in the expression.
+-- What holds of all that is embedded in an expression holds of the tree that a walk makes of it, and of its conditions.
 use Rattle.std.proofs.Common.{ℕ, zero, suc, ◌+◌, ◌-◌, ◌++◌, Bool, true, false, cond, List, [], ◌∷◌, Option, Some, None, replicate, length}
 use Rattle.std.specs.Prelude.{pos, nat_eq, nat_lt, ◌&&◌}
 use Rattle.rl_types.specs.declared.numbers.ActionId.{ActionId}
 use Rattle.rl_types.specs.declared.numbers.Place.{Place}
 use Rattle.rl_draft.specs.declared.expression.Put.{Put}
 use Rattle.rl_draft.specs.declared.expression.Put.TheVariants as put
+use Rattle.rl_draft.specs.declared.expression.Transitions.{Transitions}
 use Rattle.rl_draft.specs.declared.expression.Transitions.TheVariants as t
-use Rattle.rl_automata.specs.declared.tree.Label.TheVariants.{Prior}
+use Rattle.rl_automata.specs.declared.tree.Kind.{Kind}
+use Rattle.rl_automata.specs.declared.tree.Label.{Label}
+use Rattle.rl_automata.specs.declared.tree.Label.TheVariants.{Action, Prior}
+use Rattle.rl_types.specs.KeyRange.{Range}
 use Rattle.rl_automata.specs.Nodes as n
 use Rattle.rl_automata.specs.Nodes.{Node}
-use Rattle.rl_model.specs.Counts.{actions_in, label_actions}
+use Rattle.rl_model.specs.Counts.{actions_in, turn_action, turn_actions_in}
 use Rattle.rl_rewrite.specs.declared.counts.Counts.{Counts}
 use Rattle.rl_rewrite.specs.declared.layers.Layer.{Layer}
 use Rattle.rl_rewrite.specs.declared.layers.Layer.TheVariants as layer
@@ -18,13 +22,19 @@ use Rattle.rl_rewrite.specs.Plain.{Plain, Pairing, Guard}
 use Rattle.rl_rewrite.specs.Walk.{Placed, Walk, walk, around, first_layers, layer_of, is_first, layer_node, layered, counted, has_copies, paired, pair_node, row, row_behind, star, optional, single, guarded_right, guarded_left, new_name, with_new_name, stamped, left_value, right_value, conditions_before}
 use Rattle.rl_form.proofs.Lists.{Each, each_append}
 
-module _ (R : ℕ → Type 0) where
-  -- the action that is embedded is such a one
+-- what is asked of actions in transitions, of actions in states, and of conditions
+pub record Asked : Type 1 where
+  pub OfAction : ℕ → Type 0
+  pub OfState : Kind → ℕ → Type 0
+  pub OfCondition : ℕ → Type 0
+
+module _ (A : Asked) where
+  -- what is embedded is such
   abbrev pub HoldsOfPut : Put → Type 0
-  HoldsOfPut (put.Action t x) = R x.0
+  HoldsOfPut (put.Action t x) = A.OfAction x.0
   HoldsOfPut (put.Priority t x v) = Unit {0}
-  HoldsOfPut (put.Mark class kind x) = R x.0
-  HoldsOfPut (put.When x) = R x.0
+  HoldsOfPut (put.Mark class kind x) = A.OfState kind x.0
+  HoldsOfPut (put.When x) = A.OfCondition x.0
 
   abbrev pub HoldsOf : Plain → Type 0
   HoldsOf (p.Set ranges at) = Unit {0}
@@ -36,57 +46,33 @@ module _ (R : ℕ → Type 0) where
   HoldsOf (p.Count a least most at) = HoldsOf a
   HoldsOf (p.Series a ps at) = HoldsOf a × Each HoldsOfPut ps
 
-  InTree : Node → Type 0
-  InTree x = Each R (actions_in x)
-
   abbrev pub InConditions : List ActionId → Type 0
-  InConditions cs = Each (λ (a : ActionId). R a.0) cs
+  InConditions cs = Each (λ (a : ActionId). A.OfCondition a.0) cs
 
-  -- ---- trees
+  -- the label's action is such a one
+  abbrev pub InLabel : Label → Type 0
+  InLabel (Action s x) = A.OfAction x.0
+  InLabel (Prior s n v) = Unit {0}
 
-  null_in : InTree n.Null
-  unfolding InTree
-  null_in = tt
-
-  nothing_in : InTree n.Nothing
-  unfolding InTree
-  nothing_in = tt
-
-  set_in : (x : List _) → InTree (n.Set x)
-  unfolding InTree
-  set_in x = tt
-
-  pair_in : (q : Pairing) (x y : Node) → InTree x → InTree y → InTree (pair_node q x y)
-  unfolding InTree
-  pair_in p.Either x y h g = each_append R (actions_in x) (actions_in y) h g
-  pair_in p.Both x y h g = each_append R (actions_in x) (actions_in y) h g
-  pair_in p.Less x y h g = each_append R (actions_in x) (actions_in y) h g
-  pair_in p.Then x y h g = each_append R (actions_in x) (actions_in y) h g
-
-  star_in : (x : Node) (base : ℕ) → InTree x → InTree (n.Star x base)
-  unfolding InTree
-  star_in x base h = h
-
-  -- ---- layers
-
-  abbrev InLayer : Layer → Type 0
-  InLayer (layer.Step t l) = Each R (label_actions l)
-  InLayer (layer.State class kind stamp action) = R action.0
+  abbrev pub InLayer : Layer → Type 0
+  InLayer (layer.Step t l) = InLabel l
+  InLayer (layer.State class kind stamp action) = A.OfState kind action.0
   InLayer (layer.When condition) = Unit {0}
 
-  layer_in : (l : Layer) (x : Node) → InLayer l → InTree x → InTree (layer_node l x)
-  unfolding InTree
-  layer_in (layer.Step t.Entering l) x h g = each_append R (label_actions l) (actions_in x) h g
-  layer_in (layer.Step t.Finishing l) x h g = each_append R (label_actions l) (actions_in x) h g
-  layer_in (layer.Step t.All l) x h g = each_append R (label_actions l) (actions_in x) h g
-  layer_in (layer.Step t.Leaving l) x h g = each_append R (label_actions l) (actions_in x) h g
-  layer_in (layer.State class kind stamp action) x h g = (h, g)
-  layer_in (layer.When condition) x h g = g
+-- it is kept by all that a walk makes
+pub record IsKeptBy (A : Asked) (InTree : Node → Type 0) : Type 0 where
+  pub null : InTree n.Null
+  pub nothing : InTree n.Nothing
+  pub set : (ranges : List Range) → InTree (n.Set ranges)
+  pub pair : (q : Pairing) (x y : Node) → InTree x → InTree y → InTree (pair_node q x y)
+  pub star : (x : Node) (base : ℕ) → InTree x → InTree (n.Star x base)
+  pub layer : (l : Layer) (x : Node) → InLayer A l → InTree x → InTree (layer_node l x)
 
+module _ (A : Asked) (InTree : Node → Type 0) (kept : IsKeptBy A InTree) where
   InLayers : List (Option Layer) → Type 0
   InLayers [] = Unit {0}
   InLayers (None ∷ ls) = InLayers ls
-  InLayers (Some l ∷ ls) = InLayer l × InLayers ls
+  InLayers (Some l ∷ ls) = InLayer A l × InLayers ls
 
   -- ---- rows
 
@@ -97,11 +83,11 @@ module _ (R : ℕ → Type 0) where
   behind_in : (x : Placed) (xs : List Placed) (at : Place) → InTree x.node → InAll xs → InTree (row_behind x xs at).node
   unfolding InAll
   behind_in x [] at h hs = h
-  behind_in x (y ∷ ys) at h hs = behind_in (paired p.Then x y at) ys at (pair_in p.Then x.node y.node h hs.0) hs.1
+  behind_in x (y ∷ ys) at h hs = behind_in (paired p.Then x y at) ys at (kept.pair p.Then x.node y.node h hs.0) hs.1
 
   row_in : (xs : List Placed) (at : Place) → InAll xs → InTree (row xs at).node
   unfolding InAll
-  row_in [] at hs = null_in
+  row_in [] at hs = kept.null
   row_in (x ∷ xs) at hs = behind_in x xs at hs.0 hs.1
 
   both_in : (xs ys : List Placed) → InAll xs → InAll ys → InAll (xs ++ ys)
@@ -119,37 +105,37 @@ module _ (R : ℕ → Type 0) where
   -- such actions in the tree, and such conditions behind it
   record Keeps (x : Placed × Counts) : Type 0 where
     tree : InTree x.0.node
-    conditions : InConditions x.1.conditions
+    conditions : InConditions A x.1.conditions
 
-  counted_in : (least : ℕ) (most : Option ℕ) (at : Place) (x : Placed) (c : Counts) → InTree x.node → InConditions c.conditions → Keeps (counted least most at x c)
+  counted_in : (least : ℕ) (most : Option ℕ) (at : Place) (x : Placed) (c : Counts) → InTree x.node → InConditions A c.conditions → Keeps (counted least most at x c)
   unfolding InAll
   counted_in least (Some most) at x c h k = record {
     tree = row_in (replicate least x ++ replicate (most - least) (optional x at)) at
         (both_in (replicate least x) (replicate (most - least) (optional x at)) (copies_in least x h)
-        (copies_in (most - least) (optional x at) (pair_in p.Either x.node n.Null h null_in)));
+        (copies_in (most - least) (optional x at) (kept.pair p.Either x.node n.Null h kept.null)));
     conditions = k;
   }
   counted_in least None at x c h k = record {
     tree = row_in (replicate least x ++ star x (c.stamp + 1) at ∷ []) at
-        (both_in (replicate least x) (star x (c.stamp + 1) at ∷ []) (copies_in least x h) (star_in x.node (c.stamp + 1) h, tt));
+        (both_in (replicate least x) (star x (c.stamp + 1) at ∷ []) (copies_in least x h) (kept.star x.node (c.stamp + 1) h, tt));
     conditions = k;
   }
 
-  count_in : (b : Bool) (least : ℕ) (most : Option ℕ) (at : Place) (x : Placed × Counts) (c : Counts) → Keeps x → InConditions c.conditions
+  count_in : (b : Bool) (least : ℕ) (most : Option ℕ) (at : Place) (x : Placed × Counts) (c : Counts) → Keeps x → InConditions A c.conditions
       → Keeps (cond {A = Placed × Counts} b (counted least most at x.0 x.1) (single n.Null at, c))
   count_in true least most at x c h k = counted_in least most at x.0 x.1 h.tree h.conditions
-  count_in false least most at x c h k = record { tree = null_in; conditions = k }
+  count_in false least most at x c h k = record { tree = kept.null; conditions = k }
 
-  pushed_in : (b : Bool) (cs : List ActionId) (x : ActionId) → R x.0 → InConditions cs → InConditions (cond b (cs ++ x ∷ []) cs)
-  pushed_in true cs x h k = each_append (λ (a : ActionId). R a.0) cs (x ∷ []) k (h, tt)
+  pushed_in : (b : Bool) (cs : List ActionId) (x : ActionId) → A.OfCondition x.0 → InConditions A cs → InConditions A (cond b (cs ++ x ∷ []) cs)
+  pushed_in true cs x h k = each_append (λ (a : ActionId). A.OfCondition a.0) cs (x ∷ []) k (h, tt)
   pushed_in false cs x h k = k
 
   record KeepsLayer (y : Layer × Counts) : Type 0 where
-    layer : InLayer y.0
-    conditions : InConditions y.1.conditions
+    layer : InLayer A y.0
+    conditions : InConditions A y.1.conditions
 
-  layer_of_in : (q : Put) (c : Counts) → HoldsOfPut q → InConditions c.conditions → KeepsLayer (layer_of q c)
-  layer_of_in (put.Action t x) c h k = record { layer = (h, tt); conditions = k }
+  layer_of_in : (q : Put) (c : Counts) → HoldsOfPut A q → InConditions A c.conditions → KeepsLayer (layer_of q c)
+  layer_of_in (put.Action t x) c h k = record { layer = h; conditions = k }
   layer_of_in (put.Priority t x v) c h k = record { layer = tt; conditions = k }
   layer_of_in (put.Mark class kind x) c h k = record { layer = h; conditions = k }
   layer_of_in (put.When x) c h k = record {
@@ -159,56 +145,56 @@ module _ (R : ℕ → Type 0) where
 
   record KeepsFirst (r : List (Option Layer) × Counts) : Type 0 where
     layers : InLayers r.0
-    conditions : InConditions r.1.conditions
+    conditions : InConditions A r.1.conditions
 
-  first_case : (b : Bool) (y : Layer × Counts) (ps : List Put) (c : Counts) → KeepsLayer y → InConditions c.conditions → ((d : Counts) → InConditions d.conditions → KeepsFirst (first_layers ps d))
+  first_case : (b : Bool) (y : Layer × Counts) (ps : List Put) (c : Counts) → KeepsLayer y → InConditions A c.conditions → ((d : Counts) → InConditions A d.conditions → KeepsFirst (first_layers ps d))
       → KeepsFirst (cond {A = List (Option Layer) × Counts} b (Some y.0 ∷ (first_layers ps y.1).0, (first_layers ps y.1).1) (None ∷ (first_layers ps c).0, (first_layers ps c).1))
   unfolding InLayers
   first_case true y ps c h k f = let r = f y.1 h.conditions in record { layers = (h.layer, r.layers); conditions = r.conditions }
   first_case false y ps c h k f = let r = f c k in record { layers = r.layers; conditions = r.conditions }
 
-  first_in : (ps : List Put) (c : Counts) → Each HoldsOfPut ps → InConditions c.conditions → KeepsFirst (first_layers ps c)
+  first_in : (ps : List Put) (c : Counts) → Each (HoldsOfPut A) ps → InConditions A c.conditions → KeepsFirst (first_layers ps c)
   unfolding InLayers
   first_in [] c h k = record { layers = tt; conditions = k }
   first_in (q ∷ ps) c h k = first_case (is_first q) (layer_of q c) ps c (layer_of_in q c h.0 k) k (λ d e. first_in ps d h.1 e)
 
-  around_in : (ps : List Put) (ls : List (Option Layer)) (at : Place) (x : Placed) (c : Counts) → Each HoldsOfPut ps → InLayers ls → InTree x.node → InConditions c.conditions → Keeps (around ps ls at x c)
+  around_in : (ps : List Put) (ls : List (Option Layer)) (at : Place) (x : Placed) (c : Counts) → Each (HoldsOfPut A) ps → InLayers ls → InTree x.node → InConditions A c.conditions → Keeps (around ps ls at x c)
   unfolding InLayers
   around_in [] ls at x c h ks g k = record { tree = g; conditions = k }
   around_in (q ∷ ps) [] at x c h ks g k = record { tree = g; conditions = k }
   around_in (q ∷ ps) (None ∷ ls) at x c h ks g k =
       let y = layer_of q c in
       let f = layer_of_in q c h.0 k in
-      around_in ps ls at (layered y.0 x at) y.1 h.1 ks (layer_in y.0 x.node f.layer g) f.conditions
-  around_in (q ∷ ps) (Some l ∷ ls) at x c h ks g k = around_in ps ls at (layered l x at) c h.1 ks.1 (layer_in l x.node ks.0 g) k
+      around_in ps ls at (layered y.0 x at) y.1 h.1 ks (kept.layer y.0 x.node f.layer g) f.conditions
+  around_in (q ∷ ps) (Some l ∷ ls) at x c h ks g k = around_in ps ls at (layered l x at) c h.1 ks.1 (kept.layer l x.node ks.0 g) k
 
-  right_in : (g : Guard) (u : ℕ) (at : Place) (w : Walk Placed) (c : Counts) → InConditions c.conditions → ((d : Counts) → InConditions d.conditions → Keeps (w d)) → Keeps (guarded_right g u at w c)
+  right_in : (g : Guard) (u : ℕ) (at : Place) (w : Walk Placed) (c : Counts) → InConditions A c.conditions → ((d : Counts) → InConditions A d.conditions → Keeps (w d)) → Keeps (guarded_right g u at w c)
   right_in p.Left u at w c k f =
       let r = f (stamped c) k in
-      record { tree = layer_in (layer.Step t.Entering (Prior (c.stamp + 1) u (right_value p.Left))) (w (stamped c)).0.node tt r.tree; conditions = r.conditions }
+      record { tree = kept.layer (layer.Step t.Entering (Prior (c.stamp + 1) u (right_value p.Left))) (w (stamped c)).0.node tt r.tree; conditions = r.conditions }
   right_in p.Entry u at w c k f =
       let r = f (stamped c) k in
-      record { tree = layer_in (layer.Step t.Entering (Prior (c.stamp + 1) u (right_value p.Entry))) (w (stamped c)).0.node tt r.tree; conditions = r.conditions }
+      record { tree = kept.layer (layer.Step t.Entering (Prior (c.stamp + 1) u (right_value p.Entry))) (w (stamped c)).0.node tt r.tree; conditions = r.conditions }
   right_in p.Finish u at w c k f =
       let r = f c k in
-      record { tree = layer_in (layer.Step t.Finishing (Prior ((w c).1.stamp + 1) u (right_value p.Finish))) (w c).0.node tt r.tree; conditions = r.conditions }
+      record { tree = kept.layer (layer.Step t.Finishing (Prior ((w c).1.stamp + 1) u (right_value p.Finish))) (w c).0.node tt r.tree; conditions = r.conditions }
 
-  walk_in : (q : Plain) (c : Counts) → HoldsOf q → InConditions c.conditions → Keeps (walk q c)
-  walk_in (p.Set ranges at) c h k = record { tree = set_in ranges; conditions = k }
-  walk_in (p.Null at) c h k = record { tree = null_in; conditions = k }
-  walk_in (p.Nothing at) c h k = record { tree = nothing_in; conditions = k }
+  walk_in : (q : Plain) (c : Counts) → HoldsOf A q → InConditions A c.conditions → Keeps (walk q c)
+  walk_in (p.Set ranges at) c h k = record { tree = kept.set ranges; conditions = k }
+  walk_in (p.Null at) c h k = record { tree = kept.null; conditions = k }
+  walk_in (p.Nothing at) c h k = record { tree = kept.nothing; conditions = k }
   walk_in (p.Pair q a b at) c h k =
       let x = walk_in a c h.0 k in
       let y = walk_in b (walk a c).1 h.1 x.conditions in
-      record { tree = pair_in q (walk a c).0.node (walk b (walk a c).1).0.node x.tree y.tree; conditions = y.conditions }
+      record { tree = kept.pair q (walk a c).0.node (walk b (walk a c).1).0.node x.tree y.tree; conditions = y.conditions }
   walk_in (p.Guarded g a b at) c h k =
       let x = walk a c in
       let r = walk_in a c h.0 k in
       let l = guarded_left g (new_name x.1) at x.0 (with_new_name x.1) in
       let y = right_in g (new_name x.1) at (walk b) l.1 r.conditions (λ d e. walk_in b d h.1 e) in
       record {
-        tree = pair_in p.Then l.0.node (guarded_right g (new_name x.1) at (walk b) l.1).0.node
-            (layer_in (layer.Step t.All (Prior (x.1.stamp + 1) (new_name x.1) (left_value g))) x.0.node tt r.tree) y.tree;
+        tree = kept.pair p.Then l.0.node (guarded_right g (new_name x.1) at (walk b) l.1).0.node
+            (kept.layer (layer.Step t.All (Prior (x.1.stamp + 1) (new_name x.1) (left_value g))) x.0.node tt r.tree) y.tree;
         conditions = y.conditions;
       }
   walk_in (p.Longest a at) c h k =
@@ -218,7 +204,7 @@ module _ (R : ℕ → Type 0) where
       let l1 = layer.Step t.All (Prior (x.1.stamp + 1) u (pos 1)) in
       let l2 = layer.Step t.Leaving (Prior (x.1.stamp + 2) u (pos 0)) in
       record {
-        tree = star_in (layer_node l2 (layer_node l1 x.0.node)) (x.1.stamp + 3) (layer_in l2 (layer_node l1 x.0.node) tt (layer_in l1 x.0.node tt r.tree));
+        tree = kept.star (layer_node l2 (layer_node l1 x.0.node)) (x.1.stamp + 3) (kept.layer l2 (layer_node l1 x.0.node) tt (kept.layer l1 x.0.node tt r.tree));
         conditions = r.conditions;
       }
   walk_in (p.Count a least most at) c h k = count_in (has_copies least most) least most at (walk a c) c (walk_in a c h k) k
@@ -227,6 +213,81 @@ module _ (R : ℕ → Type 0) where
       let x = walk_in a (first_layers ps c).1 h.0 l.conditions in
       around_in ps (first_layers ps c).0 at (walk a (first_layers ps c).1).0 (walk a (first_layers ps c).1).1 h.1 l.layers x.tree x.conditions
 
-  pub walk_actions : (q : Plain) (c : Counts) → HoldsOf q → InConditions c.conditions → Each R (actions_in (walk q c).0.node) × InConditions (walk q c).1.conditions
-  unfolding InTree
-  walk_actions q c h k = let r = walk_in q c h k in (r.tree, r.conditions)
+  -- such a tree, and such conditions
+  pub walk_holds : (q : Plain) (c : Counts) → HoldsOf A q → InConditions A c.conditions → InTree (walk q c).0.node × InConditions A (walk q c).1.conditions
+  walk_holds q c h k = let r = walk_in q c h k in (r.tree, r.conditions)
+
+-- ---- actions
+
+-- each action is such a one, wherever it is embedded
+abbrev pub all_asked : (ℕ → Type 0) → Asked
+all_asked R = record { OfAction = R; OfState = λ kind x. R x; OfCondition = R }
+
+module _ (R : ℕ → Type 0) where
+  abbrev InActions : Node → Type 0
+  InActions x = Each R (actions_in x)
+
+  pair_actions : (q : Pairing) (x y : Node) → InActions x → InActions y → InActions (pair_node q x y)
+  pair_actions p.Either x y h g = each_append R (actions_in x) (actions_in y) h g
+  pair_actions p.Both x y h g = each_append R (actions_in x) (actions_in y) h g
+  pair_actions p.Less x y h g = each_append R (actions_in x) (actions_in y) h g
+  pair_actions p.Then x y h g = each_append R (actions_in x) (actions_in y) h g
+
+  step_actions : (t : Transitions) (l : Label) (x : Node) → InLabel (all_asked R) l → InActions x → InActions (layer_node (layer.Step t l) x)
+  step_actions t.Entering (Action s a) x h g = (h, g)
+  step_actions t.Entering (Prior s u v) x h g = g
+  step_actions t.Finishing (Action s a) x h g = (h, g)
+  step_actions t.Finishing (Prior s u v) x h g = g
+  step_actions t.All (Action s a) x h g = (h, g)
+  step_actions t.All (Prior s u v) x h g = g
+  step_actions t.Leaving (Action s a) x h g = (h, g)
+  step_actions t.Leaving (Prior s u v) x h g = g
+
+  layer_actions : (l : Layer) (x : Node) → InLayer (all_asked R) l → InActions x → InActions (layer_node l x)
+  layer_actions (layer.Step t l) x h g = step_actions t l x h g
+  layer_actions (layer.State class kind stamp action) x h g = (h, g)
+  layer_actions (layer.When condition) x h g = g
+
+  pub keeps_actions : IsKeptBy (all_asked R) (λ x. Each R (actions_in x))
+  keeps_actions = record {
+    null = tt;
+    nothing = tt;
+    set = λ ranges. tt;
+    pair = pair_actions;
+    star = λ x base h. h;
+    layer = layer_actions;
+  }
+
+-- ---- conditions, to-state and from-state actions
+
+-- each of these is such a one
+abbrev pub turn_asked : (ℕ → Type 0) → Asked
+turn_asked R = record { OfAction = λ x. Unit {0}; OfState = λ kind x. Each R (turn_action kind x); OfCondition = R }
+
+module _ (R : ℕ → Type 0) where
+  abbrev InTurns : Node → Type 0
+  InTurns x = Each R (turn_actions_in x)
+
+  pair_turns : (q : Pairing) (x y : Node) → InTurns x → InTurns y → InTurns (pair_node q x y)
+  pair_turns p.Either x y h g = each_append R (turn_actions_in x) (turn_actions_in y) h g
+  pair_turns p.Both x y h g = each_append R (turn_actions_in x) (turn_actions_in y) h g
+  pair_turns p.Less x y h g = each_append R (turn_actions_in x) (turn_actions_in y) h g
+  pair_turns p.Then x y h g = each_append R (turn_actions_in x) (turn_actions_in y) h g
+
+  layer_turns : (l : Layer) (x : Node) → InLayer (turn_asked R) l → InTurns x → InTurns (layer_node l x)
+  layer_turns (layer.Step t.Entering l) x h g = g
+  layer_turns (layer.Step t.Finishing l) x h g = g
+  layer_turns (layer.Step t.All l) x h g = g
+  layer_turns (layer.Step t.Leaving l) x h g = g
+  layer_turns (layer.State class kind stamp action) x h g = each_append R (turn_action kind action.0) (turn_actions_in x) h g
+  layer_turns (layer.When condition) x h g = g
+
+  pub keeps_turns : IsKeptBy (turn_asked R) (λ x. Each R (turn_actions_in x))
+  keeps_turns = record {
+    null = tt;
+    nothing = tt;
+    set = λ ranges. tt;
+    pair = pair_turns;
+    star = λ x base h. h;
+    layer = layer_turns;
+  }

@@ -12,10 +12,13 @@ use Rattle.rl_automata.specs.Nodes.{Node}
 use Rattle.rl_automata.specs.Refused.{AreDifferent, sets_in}
 use Rattle.rl_model.specs.declared.spec.ActionDef.{ActionDef}
 use Rattle.rl_model.specs.declared.spec.Write.{Write}
-use Rattle.rl_model.specs.Counts.{actions_in, trees_of}
-use Rattle.rl_model.specs.WellFormed.{IsNumber, IsInAlphabet}
+use Rattle.rl_code.specs.Reading.{IsBlock, IsReadAs}
+use Rattle.rl_model.specs.Counts.{actions_in, turn_actions_in, trees_of}
+use Rattle.rl_model.specs.Specification.{action_of}
+use Rattle.rl_model.specs.WellFormed.{IsNumber, IsInAlphabet, HasNoStatement, outer_statements}
 use Rattle.rl_grammar.specs.declared.step.Step.{Step}
 use Rattle.rl_draft.specs.declared.draft.Draft.{Draft}
+use Rattle.rl_names.specs.Checks.{leaves_fault}
 use Rattle.rl_names.specs.Drafts.{draft_of}
 use Rattle.rl_names.specs.Events.{Event, union_events}
 use Rattle.rl_names.specs.Events as event
@@ -24,9 +27,29 @@ use Rattle.rl_names.specs.Names.{names_fault}
 use Rattle.rl_rewrite.specs.Entries.{Made, meanings, entries, all_conditions}
 use Rattle.rl_form.specs.Form.{IsPlain}
 
--- no action has a control statement
-abbrev pub IsQuiet : Draft → Type 0
-IsQuiet draft = All (λ (a : ActionDef). a.statements ≡ []) draft.actions
+-- the names of its entries, in order
+abbrev pub entry_names : Draft → List (List ℕ)
+entry_names draft = map (λ (m : Made). m.name) (entries [] (meanings draft))
+
+-- each action's code is read as its statements, among its entries
+abbrev pub HasReadCodes : Draft → Type 0
+HasReadCodes draft = All (λ (a : ActionDef). IsReadAs (entry_names draft) a.code a.statements) draft.actions
+
+-- no action has more than four statements at the outer level
+abbrev pub HasFewStatements : Draft → Type 0
+HasFewStatements draft = All (λ (a : ActionDef). outer_statements a.statements ≤ 4) draft.actions
+
+-- the action with this number has no statement
+abbrev pub IsQuiet : Draft → ℕ → Type 0
+IsQuiet draft n = HasNoStatement (map action_of draft.actions) n
+
+-- no condition has a statement
+abbrev pub HasQuietConditions : Draft → Type 0
+HasQuietConditions draft = All (λ (a : ActionId). IsQuiet draft a.0) (all_conditions [] (meanings draft))
+
+-- no to-state and no from-state action of an entry has a statement
+abbrev pub HasQuietTurns : Draft → Type 0
+HasQuietTurns draft = All (λ (m : Made). All (λ (t : Node). All (IsQuiet draft) (turn_actions_in t)) (trees_of m.root)) (entries [] (meanings draft))
 
 -- no two actions have one name
 abbrev pub HasOwnActions : Draft → Type 0
@@ -69,13 +92,13 @@ abbrev pub Fits : Place → Type 0
 Fits p = (p.file < 2 ^ 64) × (p.line < 2 ^ 64) × (p.col < 2 ^ 64)
 
 abbrev pub IsUsedAsWritten : Event → Type 0
-IsUsedAsWritten (event.Code w) = Fits w.place
+IsUsedAsWritten (event.Code w) = Fits w.place × IsBlock w.text
 IsUsedAsWritten _ = Unit {0}
 
--- its names are names, as those that tokens have
+-- its names are names and its codes are blocks of C, as those that tokens have
 abbrev pub IsWritten : Statement → Type 0
 IsWritten (statement.Machine m) = IsTrue (is_name m.name.text)
-IsWritten (statement.Action a) = IsTrue (is_name a.name.text)
+IsWritten (statement.Action a) = IsTrue (is_name a.name.text) × IsBlock a.code.text
 IsWritten (statement.Definition d) = IsTrue (is_name d.name.text) × All IsUsedAsWritten (union_events d.value)
 IsWritten _ = Unit {0}
 
@@ -100,6 +123,10 @@ HasSmallSets draft = All (λ (m : Made). All (IsSmallSet draft.alphabet) (flat_m
 -- it holds of every draft that such statements are read as
 abbrev pub OfWritten : (Draft → Type 0) → Type 0
 OfWritten P = (steps : List Step) (machine : List ℕ) (draft : Draft) → AreWritten steps → draft_of steps machine ≡ Ok draft → P draft
+
+-- it holds of every draft that such statements are read as in which no fault of names, of keys or of entries is found
+abbrev pub OfAccepted : (Draft → Type 0) → Type 0
+OfAccepted P = (steps : List Step) (machine : List ℕ) (draft : Draft) → AreWritten steps → names_fault steps ≡ None → leaves_fault steps ≡ None → draft_of steps machine ≡ Ok draft → P draft
 
 -- each machine has a name
 abbrev pub HaveNamedMachines : Type 0

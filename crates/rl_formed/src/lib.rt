@@ -4,4 +4,4 @@
 
 mod laws;
 
-pub use laws::{names_are_written, places_are_in_files, specs_are_formed};
+pub use laws::{codes_are_read, names_are_written, places_are_in_files, specs_are_formed};

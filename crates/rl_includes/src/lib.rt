@@ -14,6 +14,3 @@ mod unrolled;
 
 pub use follow::unroll;
 pub use unrolled::{Stop, Unrolled};
-
-#[cfg(test)]
-mod tests;

@@ -25,7 +25,7 @@ greater Less e = absurd (true≢false (sym e))
 greater Equal e = absurd (true≢false (sym e))
 greater Greater e = refl
 
-outranks_is : (p q : Prior) → outranks p q ≡ true → (q.name ≡ p.name) × (prior_cmp p q ≡ Less)
+pub outranks_is : (p q : Prior) → outranks p q ≡ true → (q.name ≡ p.name) × (prior_cmp p q ≡ Less)
 outranks_is p q e =
     let h = both (nat_eq q.name p.name) (is_gt (prior_cmp q p)) e in
     (eqb-true q.name p.name h.0, prior_order.total.antisymm p q ∙ ap ordering_reverse (greater (prior_cmp q p) h.1))
@@ -43,7 +43,7 @@ outranks_trans p q r e f =
 less_not_equal : Less ≡ Equal → ⊥
 less_not_equal e = subst (λ (o : Ordering). elim o as (λ _. Type 0) [ Less ↦ Unit {0} | Equal ↦ ⊥ | Greater ↦ ⊥ ]) e tt
 
-never_itself : (p : Prior) → outranks p p ≡ true → ⊥
+pub never_itself : (p : Prior) → outranks p p ≡ true → ⊥
 never_itself p e = less_not_equal (sym (outranks_is p p e).1 ∙ ties prior_order p)
 
 refuted : (b : Bool) → (b ≡ true → ⊥) → b ≡ false
@@ -105,7 +105,7 @@ unranked : (p : Prior) (xs : List Prior) → ((x : Prior) → In x xs → outran
 unranked p [] f = refl
 unranked p (x ∷ xs) f = ap (λ b. b || list_any (outranks p) xs) (refuted (outranks p x) (f x (inl refl))) ∙ unranked p xs (λ y i. f y (inr i))
 
-to_table : (p : Prior) (ps : List Prior) → In p ps → ((x : Prior) → In x ps → outranks p x ≡ true → ⊥) → In p (table_of ps)
+pub to_table : (p : Prior) (ps : List Prior) → In p ps → ((x : Prior) → In x ps → outranks p x ≡ true → ⊥) → In p (table_of ps)
 to_table p ps i f =
     In-filter (λ w. not (list_any (outranks w) ps)) p (set_of prior_cmp ps) (In-set_of prior_order p ps i) (ap not (unranked p ps f))
 
@@ -132,7 +132,7 @@ kept r ps i =
 
 -- ---- the table of a table's entries and others
 
-ascends_prior : (t : List Prior) → IsTable t → Ascends prior_cmp t
+pub ascends_prior : (t : List Prior) → IsTable t → Ascends prior_cmp t
 ascends_prior [] a = tt
 ascends_prior (p ∷ t) a = (below p t a.0, ascends_prior t a.1)
   where

@@ -15,10 +15,10 @@ use Rattle.rl_laws.proofs.Greatest.{from_table, table_of-table}
 
 -- ---- an entry and its name in a table
 
-some_is : (p q : Prior) → Some p ≡ Some q → p ≡ q
+pub some_is : (p q : Prior) → Some p ≡ Some q → p ≡ q
 some_is p q e = ap (λ (o : Option Prior). elim o as (λ _. Prior) [ None ↦ p | Some r ↦ r ]) e
 
-no_some : {P : Type 0} (q : Prior) → None ≡ Some q → P
+pub no_some : {P : Type 0} (q : Prior) → None ≡ Some q → P
 no_some q e = absurd (subst (λ (o : Option Prior). elim o as (λ _. Type 0) [ None ↦ Unit {0} | Some r ↦ ⊥ ]) e tt)
 
 below_in : (p q : Prior) (t : List Prior) → Below name_cmp p t → In q t → name_cmp p q ≡ Less
@@ -26,13 +26,13 @@ below_in p q [] b h = absurd h
 below_in p q (r ∷ t) b (inl e) = subst (λ (w : Prior). name_cmp p w ≡ Less) e b.0
 below_in p q (r ∷ t) b (inr h) = below_in p q t b.1 h
 
-in_at : (p : Prior) (t : List Prior) → IsTable t → In p t → entry_at p.name t ≡ Some p
+pub in_at : (p : Prior) (t : List Prior) → IsTable t → In p t → entry_at p.name t ≡ Some p
 in_at p [] a h = absurd h
 in_at p (q ∷ t) a (inl e) = ap (λ c. cond c (Some q) (entry_at p.name t)) (eq-eqb q.name p.name (λ i. (e i).name)) ∙ ap Some e
 in_at p (q ∷ t) a (inr h) =
     ap (λ c. cond c (Some q) (entry_at p.name t)) (apart_names q.name p.name (less q.name p.name (below_in q p t a.0 h))) ∙ in_at p t a.1 h
 
-at_in : (n : ℕ) (p : Prior) (t : List Prior) → entry_at n t ≡ Some p → In p t × (p.name ≡ n)
+pub at_in : (n : ℕ) (p : Prior) (t : List Prior) → entry_at n t ≡ Some p → In p t × (p.name ≡ n)
 at_in n p [] e = no_some p e
 at_in n p (q ∷ t) e =
     (elim (nat_eq q.name n) as (λ c. nat_eq q.name n ≡ c → cond c (Some q) (entry_at n t) ≡ Some p → In p (q ∷ t) × (p.name ≡ n)) [

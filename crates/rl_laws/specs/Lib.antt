@@ -1,1 +1,4 @@
 pub mod Priorities
+pub mod Written
+pub mod Ties
+pub mod Regular

@@ -15,10 +15,6 @@ pub all_parts : {X : Type 0} → (P : X → Type 0) (xs ys : List X) → AllByRe
 all_parts P [] ys a = (tt, a)
 all_parts P (x ∷ xs) ys a = let p = all_parts P xs ys a.1 in ((a.0, p.0), p.1)
 
-pub all_both : {X : Type 0} → (P Q R : X → Type 0) (xs : List X) → ((x : X) → P x → Q x → R x) → AllByRecursion P xs → AllByRecursion Q xs → AllByRecursion R xs
-all_both P Q R [] f a b = tt
-all_both P Q R (x ∷ xs) f a b = (f x a.0 b.0, all_both P Q R xs f a.1 b.1)
-
 pub all_at : {X : Type 0} → (P : X → Type 0) (xs : List X) (i : ℕ) (x : X) → AllByRecursion P xs → slice_get xs i ≡ Some x → P x
 all_at P [] i x a e = absurd cc
 all_at P (y ∷ xs) zero x a e = let same : y ≡ x = cc in subst P same a.0

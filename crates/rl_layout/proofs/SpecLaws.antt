@@ -28,7 +28,6 @@ use Rattle.rl_model.specs.Specification as spec_statements
 use Rattle.rl_layout.specs.declared.statements.StatementArray.TheVariants as of
 use Rattle.rl_layout.specs.SpecArrays.{statements_of, name_of, kind_number, base_number, element_of, alphabet_number}
 use Rattle.rl_layout.specs.Cells.{offsets}
-use Rattle.rl_layout.specs.Goals.{HasOwnGoal}
 use Rattle.rl_layout.proofs.ListLaws.{next_get, all_at, all_parts}
 use Rattle.rl_layout.proofs.Segments.{begins, begins_map, offset_at, in_segment}
 
@@ -110,7 +109,8 @@ same_outer false = refl
 -- a statement has an entry exactly where its kind names one, and a goal only where it is an exec
 pub record IsPlain (s : Statement) : Type 0 where
   pub entry : IsSome s.entry ↔ IsTrue (names_entry s.kind)
-  pub goal : HasOwnGoal s
+  pub base : is_exec s.kind ≡ false → s.base ≡ Unread
+  pub offset : is_exec s.kind ≡ false → s.offset ≡ pos 0
 
 same_entry : (b : Bool) (o : Option EntryId) (offset : ℤ) → (IsSome o ↔ IsTrue b) → cond b (Some (record { 0 = natural (option_map_or (λ (e : EntryId). pos e.0) o offset) })) None ≡ o
 same_entry true (Some e) offset h = refl
@@ -141,8 +141,8 @@ same_statement s p = λ i. record {
   kind = s.kind;
   outer = same_outer s.outer i;
   entry = same_entry (names_entry s.kind) s.entry s.offset p.entry i;
-  base = own_base (is_exec s.kind) s.base p.goal.base i;
-  offset = own_offset (is_exec s.kind) s.entry s.offset none p.goal.offset i;
+  base = own_base (is_exec s.kind) s.base p.base i;
+  offset = own_offset (is_exec s.kind) s.entry s.offset none p.offset i;
 }
   where
     none : is_exec s.kind ≡ true → IsSome s.entry → ⊥

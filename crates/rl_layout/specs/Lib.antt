@@ -6,6 +6,5 @@ pub mod Shares
 pub mod StateArrays
 pub mod SpecArrays
 pub mod Layout
-pub mod Goals
 pub mod Fits
 pub mod Shown

@@ -2,7 +2,6 @@
 ghost use Rattle.std.specs.Prelude.{◌≡◌, ◌∷◌, [], ◌++◌, pos, IfOk};
 ghost use Rattle.rl_arrays.specs.Valid.{Valid};
 ghost use Rattle.rl_model.specs.WellFormed.{IsWellFormed};
-ghost use Rattle.rl_layout.specs.Goals.{HaveOwnGoals};
 ghost use Rattle.rl_layout.specs.Fits.{Fits};
 ghost use Rattle.rl_layout.specs.Shown.{Shows};
 ghost use Rattle.rl_layout.specs.Told.{told};
@@ -291,7 +290,6 @@ fn lay_arrays(alloc: Global, spec: &Spec, min: &MinFsm) -> Result<Arrays, Memory
 /// state, with actions by these numbers. An `Err` is want of memory.
 pub fn layout(alloc: Global, spec: &Spec, min: &MinFsm) -> Result<Tables, Memory>
     requires well_formed { IsWellFormed spec.now }
-    requires goals { HaveOwnGoals spec.now }
     requires fits { Fits spec.now min.now }
     ensures arrays { IfOk result (λ t. t ≡ arrays_of spec.now min.now) }
     ensures valid { IfOk result Valid }

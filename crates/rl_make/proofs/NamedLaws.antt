@@ -33,7 +33,6 @@ use Rattle.rl_min.proofs.BreadthLaws.{built_known}
 use Rattle.rl_build.specs.Roots as built
 use Rattle.rl_layout.specs.Books.{uses_of, lists_of, order_of}
 use Rattle.rl_layout.specs.Fits.{EdgeFits, StateFits, Fits}
-use Rattle.rl_layout.specs.Goals.{HaveOwnGoals}
 use Rattle.rl_layout.specs.Layout.{arrays_of}
 use Rattle.rl_layout.specs.SpecArrays.{name_of}
 use Rattle.rl_layout.proofs.ListLaws.{all_at}
@@ -68,7 +67,7 @@ unfolding arrays_of
 names_are spec m a e = ap (λ w. (names_in w).actions) e
 
 module _ (spec : Spec) (well : IsWellFormed spec) (entries : List EntryFsm) (m : Minimal) (made : IsMachineOf entries m) (sound : IsMinimal m)
-    (tests : TestsOf (specification_of spec)) (twin : built.IsTwinOf (specification_of spec) tests entries) (goals : HaveOwnGoals spec) (fits : Fits spec m) where
+    (tests : TestsOf (specification_of spec)) (twin : built.IsTwinOf (specification_of spec) tests entries) (fits : Fits spec m) where
   abbrev plain : Specification
   plain = specification_of spec
 
@@ -129,7 +128,7 @@ module _ (spec : Spec) (well : IsWellFormed spec) (entries : List EntryFsm) (m :
       by (Some s) e k = in_all (λ a. has_number order a ≡ true) (numbers (f s)) (actions_numbered lists (f s) (pick s (uses_at i s e))) x k
 
   step_numbered : (i : ℕ) (key : Key) (hold x : ℕ) (e : MinEdge) → edge_for (letter_of key hold) (edges_at m i) ≡ Some e → In x (numbers e.list) → has_number order x ≡ true
-  step_numbered i key hold x e found h = in_all (λ a. has_number order a ≡ true) (numbers e.list) (edges_numbered spec m sound well goals i key hold e found) x h
+  step_numbered i key hold x e found h = in_all (λ a. has_number order a ≡ true) (numbers e.list) (edges_numbered spec m sound well i key hold e found) x h
 
   used_numbered : (x : ℕ) → IsUsed spec tree x → has_number order x ≡ true
   used_numbered x (q, known, h) = by h

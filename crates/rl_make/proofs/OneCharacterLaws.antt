@@ -12,9 +12,8 @@ use Rattle.rl_model.specs.declared.spec.ActionDef.{ActionDef}
 use Rattle.rl_model.specs.declared.spec.Entry as rust_entry
 use Rattle.rl_model.specs.Counts.{root_size, root_depth}
 use Rattle.rl_model.specs.Specification.{Root, root_of}
-use Rattle.rl_model.specs.WellFormed.{IsNumber, HasNoStatement, HasPatterns, HasPlaces, IsInAlphabet, IsWellFormed, outer_statements}
+use Rattle.rl_model.specs.WellFormed.{IsNumber, HasNoStatement, HasPatterns, HasPlaces, IsCodeRead, IsInAlphabet, IsWellFormed, outer_statements}
 use Rattle.rl_build.specs.Entries.{AllPlain, IsExpression}
-use Rattle.rl_layout.specs.Goals.{HasOwnGoal, HaveOwnGoals}
 use Rattle.rl_make.specs.OneCharacter.{main_entry, one_character}
 
 none : {A : Type 0} (P : A → Type 0) → All P []
@@ -53,6 +52,7 @@ well_formed = record {
   stamps = none (IsNumber 100000);
   places = one HasPlaces main_entry refl;
   patterns = one HasPatterns (root_of main_entry.root) tt;
+  codes = none (IsCodeRead one_character);
   statement_entries = none (λ (s : Statement). IsSome s.entry ↔ IsTrue (names_entry s.kind));
   few_outer = none (λ (a : ActionDef). outer_statements a.statements ≤ 4);
   quiet = none (HasNoStatement []);
@@ -60,6 +60,3 @@ well_formed = record {
 
 pub plain : AllPlain one_character
 plain = one (λ (e : rust_entry.Entry). IsExpression (root_of e.root)) main_entry tt
-
-pub goals : HaveOwnGoals one_character
-goals = none HasOwnGoal

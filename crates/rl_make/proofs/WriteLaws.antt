@@ -18,7 +18,6 @@ use Rattle.rl_min.specs.Canonical.{IsMachineOf}
 use Rattle.rl_layout.specs.Fits.{Fits}
 use Rattle.rl_layout.specs.Layout.{arrays_of}
 use Rattle.rl_layout.specs.Shown.{number_of, Shows}
-use Rattle.rl_layout.specs.Goals.{HaveOwnGoals}
 use Rattle.rl_make.specs.Named.{NamesUsed}
 use Rattle.rl_make.specs.Writes.{entry_names, condition_names, WritesAs, IsBuiltOf}
 use Rattle.rl_script.specs.TableNames.{names_in}
@@ -51,7 +50,7 @@ pub built_conditions : (spec : Spec) (m : Minimal) (a : Arrays) → a ≡ arrays
 unfolding arrays_of
 built_conditions spec m a e = ap (λ w. (names_in w).conditions) e
 
-pub built_used : (spec : Spec) (entries : List EntryFsm) (m : Minimal) (a : Arrays) → IsWellFormed spec → HaveOwnGoals spec → IsBuiltOf spec entries → IsMachineOf entries m → IsMinimal m
+pub built_used : (spec : Spec) (entries : List EntryFsm) (m : Minimal) (a : Arrays) → IsWellFormed spec → IsBuiltOf spec entries → IsMachineOf entries m → IsMinimal m
     → a ≡ arrays_of spec m → NamesUsed spec a
-built_used spec entries m a well goals built made sound e tests honest name =
-    names_used spec well entries m made sound tests (built.twin tests honest) goals (built_fits spec entries m well built made sound) a e name
+built_used spec entries m a well built made sound e tests honest name =
+    names_used spec well entries m made sound tests (built.twin tests honest) (built_fits spec entries m well built made sound) a e name

@@ -2,7 +2,6 @@
 ghost use Rattle.std.specs.Prelude.{◌≡◌, ◌≤◌, IfOk, IfErr, OnOk, length};
 ghost use Rattle.rl_arrays.specs.Valid.{Valid};
 ghost use Rattle.rl_layout.specs.Fits.{Fits};
-ghost use Rattle.rl_layout.specs.Goals.{HaveOwnGoals};
 ghost use Rattle.rl_layout.specs.Shown.{Shows};
 ghost use Rattle.rl_min.specs.Canonical.{IsMachineOf};
 ghost use Rattle.rl_minimal.specs.Sound.{IsMinimal};
@@ -53,7 +52,6 @@ fn numbered(alloc: Global, root: &RootFsm) -> Result<MinFsm, Memory>
 // The tables of a machine that was built.
 fn laid_out(alloc: Global, spec: &Spec, root: &RootFsm) -> Result<Tables, Memory>
     requires well_formed { IsWellFormed spec.now }
-    requires goals { HaveOwnGoals spec.now }
     requires built { IsBuiltOf spec.now root.now }
     ensures valid { IfOk result Valid }
     ensures writes { IfOk result (WritesAs spec.now) }
@@ -76,7 +74,6 @@ fn laid_out(alloc: Global, spec: &Spec, root: &RootFsm) -> Result<Tables, Memory
 pub fn tables_of(alloc: Global, spec: &Spec) -> Result<Tables, BuildRefusal>
     requires well_formed { IsWellFormed spec.now }
     requires plain { AllPlain spec.now }
-    requires goals { HaveOwnGoals spec.now }
     ensures valid { IfOk result Valid }
     ensures writes { IfOk result (WritesAs spec.now) }
     ensures entries { IfOk result (λ t. (names_in t).entries ≡ entry_names spec.now) }

@@ -11,3 +11,4 @@ pub mod ControlRows
 pub mod PrunedRows
 pub mod ScannerRows
 pub mod CallingRows
+pub mod CodeLaws

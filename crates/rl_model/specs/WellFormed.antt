@@ -10,6 +10,7 @@ use Rattle.rl_automata.specs.Nodes.{Node}
 use Rattle.rl_automata.specs.Refused.{AreDifferent, sets_in, conditions_in}
 use Rattle.rl_arrays.specs.Names.{is_name, is_action_name}
 use Rattle.rl_arrays.specs.Statements.{names_entry, ends_list}
+use Rattle.rl_code.specs.Reading.{IsReadAs}
 use Rattle.rl_model.specs.declared.spec.Pattern as rust
 use Rattle.rl_model.specs.declared.spec.Root as rust_root
 use Rattle.rl_model.specs.declared.spec.Root.TheVariants as R
@@ -75,9 +76,13 @@ abbrev pub HasPatterns : Root → Type 0
 HasPatterns (Plain t) = Unit {0}
 HasPatterns (Scanner ps) = ps ≢ []
 
+-- the action's code is a block of C whose words have their forms, which names entries of the Spec and has these control statements
+abbrev pub IsCodeRead : Spec → ActionDef → Type 0
+IsCodeRead spec a = IsReadAs (map (λ (e : rust_entry.Entry). e.name) spec.entries) a.code a.statements
+
 -- ---- well-formed
 
--- a Spec is well-formed where these hold, and its codes are read
+-- a Spec is well-formed where these hold
 pub record IsWellFormed (spec : Spec) : Type 0 where
   -- how many there are
   pub some_entry : 1 ≤ length spec.entries
@@ -106,12 +111,7 @@ pub record IsWellFormed (spec : Spec) : Type 0 where
   pub places : All HasPlaces spec.entries
   pub patterns : All HasPatterns (roots_of (specification_of spec))
   -- control statements
+  pub codes : All (IsCodeRead spec) spec.actions
   pub statement_entries : All (λ (s : Statement). IsSome s.entry ↔ IsTrue (names_entry s.kind)) (all_statements (specification_of spec))
   pub few_outer : All (λ (a : ActionDef). outer_statements a.statements ≤ 4) spec.actions
   pub quiet : All (HasNoStatement (specification_of spec).actions) (quiet_actions (specification_of spec))
-
--- `Reads entries code statements` tells that an action's code is a block of C in which each word that is read has its form, that
--- these are the control statements in it, and that each value of an entry in it names one of the entries. The reading of
--- sources says what that is.
-abbrev pub AreCodesRead : (List (List ℕ) → List ℕ → List Statement → Type 0) → Spec → Type 0
-AreCodesRead Reads spec = All (λ (a : ActionDef). Reads (map (λ (e : rust_entry.Entry). e.name) spec.entries) a.code a.statements) spec.actions

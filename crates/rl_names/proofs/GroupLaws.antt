@@ -8,6 +8,7 @@ use Rattle.std.proofs.lemmas.Slice.Eq.{bytes_eq-Decides}
 use Rattle.rl_names.specs.Actions.{actions_by, actions_behind, actions_of, action_names}
 use Rattle.rl_names.specs.Answers.{and_then, each, along}
 use Rattle.rl_names.specs.Drafts.{definitions_by, definitions_behind, definitions_of, draft_of}
+use Rattle.rl_names.specs.Entries.{entries_by, entries_behind, entries_of}
 use Rattle.rl_names.specs.Expressions.{Scope}
 use Rattle.rl_names.specs.Frames.{is_of, alphabet_by, alphabet_behind, alphabet_of, frame_by, frame_behind, frame_of, write_by, write_behind, writes_of}
 use Rattle.rl_names.specs.Priorities.{priorities_by, priorities_behind, priorities_of}
@@ -43,7 +44,7 @@ added told left new own more m p named taken out pushed back x =
 
 -- ---- a loop's turns
 
-at_head : {A : Type 0} (xs : List A) (i : ℕ) (x : A) → i < length xs → x ≡ get_or xs i x → drop i xs ≡ x ∷ drop (i + 1) xs
+pub at_head : {A : Type 0} (xs : List A) (i : ℕ) (x : A) → i < length xs → x ≡ get_or xs i x → drop i xs ≡ x ∷ drop (i + 1) xs
 at_head xs i x less item =
     let here : drop i xs ≡ get_or xs i x ∷ drop (i + 1) xs = rw (add-one, drop-cons xs i x) refl in
     here ∙ ap (λ z. z ∷ drop (i + 1) xs) (sym item)
@@ -99,8 +100,13 @@ module _ (machine : List ℕ) where
   abbrev own : List Step → List Step
   own steps = filter (is_of machine) steps
 
+  entries_own : (steps : List Step) → entries_of machine (own steps) ≡ entries_of machine steps
+  entries_own steps = fold_own (entries_behind machine) (λ names s miss. ap (λ z. cond z (entries_by names s.statement) names) miss) [] steps
+
   actions_own : (steps : List Step) → actions_of machine (own steps) ≡ actions_of machine steps
-  actions_own steps = fold_own (actions_behind machine) (λ done s miss. ap (λ z. cond z (actions_by done s.statement) done) miss) [] steps
+  actions_own steps =
+      ap (λ entries. fold (actions_behind entries machine) [] (own steps)) (entries_own steps)
+      ∙ fold_own (actions_behind (entries_of machine steps) machine) (λ done s miss. ap (λ z. cond z (actions_by (entries_of machine steps) done s.statement) done) miss) [] steps
 
   alphabet_own : (steps : List Step) → alphabet_of machine (own steps) ≡ alphabet_of machine steps
   alphabet_own steps = fold_own (alphabet_behind machine) (λ a s miss. ap (λ z. cond z (alphabet_by a s.statement) a) miss) _ steps

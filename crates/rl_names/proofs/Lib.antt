@@ -8,3 +8,6 @@ pub mod LevelLaws
 pub mod RefusedLaws
 pub mod AddLaws
 pub mod GroupLaws
+pub mod EntryLaws
+pub mod LeafLaws
+pub mod InstanceLaws

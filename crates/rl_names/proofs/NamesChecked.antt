@@ -34,12 +34,12 @@ names_more : (x : List ℕ) (ss : List Step) (s : Step) → names_of x (ss ++ s 
 names_more x [] s = refl
 names_more x (t ∷ ss) s = let more = names_more x ss s in omega (arith, more)
 
-told_else : (e : ReadFault) (a b : Option ReadFault) → Told a e → Told (or_else a b) e
+pub told_else : (e : ReadFault) (a b : Option ReadFault) → Told a e → Told (or_else a b) e
 told_else (reason.Fault f) a b h = ap (λ z. or_else z b) h
 told_else (reason.Limit l) a b h = ap (λ z. or_else z b) h
 told_else reason.Memory a b h = tt
 
-told_along : (e : ReadFault) (a b : Option ReadFault) → a ≡ b → Told a e → Told b e
+pub told_along : (e : ReadFault) (a b : Option ReadFault) → a ≡ b → Told a e → Told b e
 told_along e a b same h = subst (λ z. Told z e) same h
 
 module _ (steps : List Step) (i : ℕ) (s : Step) (old : Tables) (less : i < length steps) (item : s ≡ get_or steps i s) (h : AreChecked steps i old) where

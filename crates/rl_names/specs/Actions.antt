@@ -9,7 +9,9 @@ use Rattle.rl_grammar.specs.declared.syntax.Statement.{Statement}
 use Rattle.rl_grammar.specs.declared.syntax.Statement.TheVariants as statement
 use Rattle.rl_grammar.specs.declared.syntax.Word.{Word}
 use Rattle.rl_model.specs.declared.spec.ActionDef.{ActionDef}
+use Rattle.rl_code.specs.Reading.{statements_in}
 use Rattle.rl_names.specs.Answers.{along}
+use Rattle.rl_names.specs.Entries.{entries_of}
 use Rattle.rl_names.specs.Events.{Event, union_events}
 use Rattle.rl_names.specs.Events as event
 use Rattle.rl_names.specs.Frames.{is_of}
@@ -24,23 +26,24 @@ file_part file = if file == 0 then codes "@" else (codes "@" ++ decimal file) ++
 abbrev pub anonymous_name : Place → List ℕ
 anonymous_name p = ((file_part p.file ++ decimal p.line) ++ codes ":") ++ decimal p.col
 
-abbrev pub action_def : List ℕ → Word → ActionDef
-action_def name code = record { name = name; code = code.text; statements = []; place = code.place }
+-- an action whose code may name these entries
+abbrev pub action_def : List (List ℕ) → List ℕ → Word → ActionDef
+action_def entries name code = record { name = name; code = code.text; statements = statements_in entries code.text; place = code.place }
 
-abbrev pub action_used : List ActionDef → Event → List ActionDef
-action_used actions (event.Code w) = actions ++ action_def (anonymous_name w.place) w ∷ []
-action_used actions _ = actions
+abbrev pub action_used : List (List ℕ) → List ActionDef → Event → List ActionDef
+action_used entries actions (event.Code w) = actions ++ action_def entries (anonymous_name w.place) w ∷ []
+action_used entries actions _ = actions
 
-abbrev pub actions_by : List ActionDef → Statement → List ActionDef
-actions_by actions (statement.Action a) = actions ++ action_def a.name.text a.code ∷ []
-actions_by actions (statement.Definition d) = fold action_used actions (union_events d.value)
-actions_by actions _ = actions
+abbrev pub actions_by : List (List ℕ) → List ActionDef → Statement → List ActionDef
+actions_by entries actions (statement.Action a) = actions ++ action_def entries a.name.text a.code ∷ []
+actions_by entries actions (statement.Definition d) = fold (action_used entries) actions (union_events d.value)
+actions_by entries actions _ = actions
 
-abbrev pub actions_behind : List ℕ → List ActionDef → Step → List ActionDef
-actions_behind machine actions s = if is_of machine s then actions_by actions s.statement else actions
+abbrev pub actions_behind : List (List ℕ) → List ℕ → List ActionDef → Step → List ActionDef
+actions_behind entries machine actions s = if is_of machine s then actions_by entries actions s.statement else actions
 
 abbrev pub actions_of : List ℕ → List Step → List ActionDef
-actions_of machine steps = fold (actions_behind machine) [] steps
+actions_of machine steps = fold (actions_behind (entries_of machine steps) machine) [] steps
 
 -- the names of actions, each of which has its own
 abbrev pub named_behind : List (List ℕ) → ActionDef → Result (List (List ℕ)) ReadFault

@@ -1,56 +1,69 @@
--- The words of an action's code that steer the run or stand for its states (the guide's chapters 3 and 6). `fpc` and `fc`
--- do neither: they are the position and the character, good in any code, and no part of which actions are called.
-use Rattle.std.specs.Prelude.{ℕ, Bool, true, false, not, ◌||◌, ◌&&◌, ◌==◌, if◌then◌else◌, List, [], ◌∷◌, take, codes}
-use Rattle.std.specs.List.{list_any, prefix_len}
-use Rattle.std.specs.Str.{bytes_eq}
-use Rattle.rl_lexical.specs.Bytes.{in_word}
-use Rattle.rl_names.specs.declared.code.Region.{Region}
-use Rattle.rl_names.specs.declared.code.Region.TheVariants as r
+-- What is asked of an action's code: where its words stand, how many statements it has at the outer level, and which entries
+-- it names.
+use Rattle.std.specs.Prelude.{ℕ, Bool, false, not, nat_lt, if◌then◌else◌, List, [], ◌∷◌, take, Option, Some, None, is_some}
+use Rattle.std.specs.List.{list_any}
+use Rattle.std.specs.Option.{option_map, option_map_or}
+use Rattle.rl_types.specs.declared.faults.FaultKind.TheVariants.{F13, F16}
+use Rattle.rl_types.specs.declared.faults.LimitKind.TheVariants.{L10}
+use Rattle.rl_types.specs.declared.numbers.Place.{Place}
+use Rattle.rl_grammar.specs.declared.read_fault.ReadFault.{ReadFault}
+use Rattle.rl_grammar.specs.declared.read_fault.ReadFault.TheVariants as reason
+use Rattle.rl_grammar.specs.declared.syntax.Word.{Word}
+use Rattle.rl_lexical.specs.Places.{position_behind}
+use Rattle.rl_code.specs.declared.said.Said.{Said}
+use Rattle.rl_code.specs.Reading.{control_of, entry_of, first_misplaced, fifth_outer}
+use Rattle.rl_code.specs.Sayings.{sayings}
+use Rattle.rl_names.specs.Leaves.{fault_at}
 
-abbrev pub steering_words : List (List ℕ)
-steering_words =
-    codes "fgoto" ∷ codes "fcall" ∷ codes "fret" ∷ codes "fhold" ∷ codes "fexec" ∷ codes "fnext" ∷ codes "fbreak" ∷ codes "fentry"
-    ∷ codes "fcurs" ∷ codes "ftargs" ∷ []
+-- the place behind a text
+abbrev pub place_behind_text : Place → List ℕ → Place
+place_behind_text place text = (position_behind (record { from = 0; place = place }) text).place
 
-abbrev pub is_steering : List ℕ → Bool
-is_steering word = list_any (bytes_eq word) steering_words
+-- where a word of code stands that so many bytes of the code are before
+abbrev pub place_in : Word → ℕ → Place
+place_in w from = place_behind_text w.place (take from w.text)
 
--- a quote begins a string or character literal of C
-abbrev pub plain_behind : ℕ → Region
-plain_behind b = if b == 39 || b == 34 then r.Quote b else (if b == 47 then r.Slash else r.Plain)
+-- ---- statements
 
-abbrev pub quote_behind : ℕ → ℕ → Region
-quote_behind close b = if b == close then r.Plain else (if b == 92 then r.Escape close else r.Quote close)
+abbrev pub is_control : Said → Bool
+is_control s = is_some (control_of s)
 
--- what one byte more makes of the region of C that code is in
-abbrev pub region_behind : Region → ℕ → Region
-region_behind r.Plain b = plain_behind b
-region_behind r.Slash b = if b == 47 then r.LineComment else (if b == 42 then r.BlockComment else plain_behind b)
-region_behind (r.Quote close) b = quote_behind close b
-region_behind (r.Escape close) b = r.Quote close
-region_behind r.LineComment b = if b == 10 then r.Plain else r.LineComment
-region_behind r.BlockComment b = if b == 42 then r.BlockStar else r.BlockComment
-region_behind r.BlockStar b = if b == 47 then r.Plain else (if b == 42 then r.BlockStar else r.BlockComment)
+-- a code has a control statement
+abbrev pub has_statements : List ℕ → Bool
+has_statements code = list_any is_control (sayings code)
 
--- outside strings, character literals and comments
-abbrev pub is_plain : Region → Bool
-is_plain r.Plain = true
-is_plain r.Slash = true
-is_plain _ = false
+-- ---- words that stand where they may not, and statements that are too many
 
--- the word that a text begins with
-abbrev pub first_word : List ℕ → List ℕ
-first_word text = take (prefix_len in_word text) text
+abbrev pub misplaced : Word → ℕ → ReadFault
+misplaced w from = fault_at F13 (place_in w from)
 
--- a steering word begins where no letter, digit or `_` is before it
-abbrev pub begins_steering : Region → Bool → List ℕ → Bool
-begins_steering region fresh text = fresh && (is_plain region && is_steering (first_word text))
+abbrev pub one_outer_too_many : Word → ℕ → ReadFault
+one_outer_too_many w from = reason.Limit (record { kind = L10; place = place_in w from })
 
--- what is left of a code has a steering word
-abbrev pub steers_from : Region → Bool → List ℕ → Bool
-steers_from region fresh [] = false
-steers_from region fresh (b ∷ bs) = if begins_steering region fresh (b ∷ bs) then true else steers_from (region_behind region b) (not (in_word b)) bs
+-- the one that stands first
+abbrev pub first_of_both : Word → Option ℕ → Option ℕ → Option ReadFault
+first_of_both w None fifth = option_map (one_outer_too_many w) fifth
+first_of_both w (Some from) None = Some (misplaced w from)
+first_of_both w (Some from) (Some fifth) = Some (if nat_lt fifth from then one_outer_too_many w fifth else misplaced w from)
 
--- a code steers the run
-abbrev pub steers : List ℕ → Bool
-steers code = steers_from r.Plain true code
+-- The first word of a code that is misplaced, or the fifth statement at the outer level, whichever stands first.
+abbrev pub code_fault : Word → Option ReadFault
+code_fault w = first_of_both w (first_misplaced (sayings w.text)) (fifth_outer (sayings w.text))
+
+-- ---- entries
+
+-- it names an entry, but none that is there
+abbrev pub is_unnamed : (List ℕ → Bool) → Said → Bool
+is_unnamed has s = option_map_or (λ name. not (has name)) (entry_of s) false
+
+-- how many bytes stand before the first word that names no entry that is there
+abbrev pub first_unnamed : (List ℕ → Bool) → List Said → Option ℕ
+first_unnamed has [] = None
+first_unnamed has (s ∷ ss) = if is_unnamed has s then Some s.from else first_unnamed has ss
+
+abbrev pub unnamed : Word → ℕ → ReadFault
+unnamed w from = fault_at F16 (place_in w from)
+
+-- the first word of a code that names no entry that is there
+abbrev pub entry_fault : (List ℕ → Bool) → Word → Option ReadFault
+entry_fault has w = option_map (unnamed w) (first_unnamed has (sayings w.text))

@@ -21,6 +21,8 @@ use Rattle.rl_grammar.specs.declared.syntax.Negated.{Negated}
 use Rattle.rl_grammar.specs.declared.syntax.Pattern.{Pattern}
 use Rattle.rl_grammar.specs.declared.syntax.Repeated.{Repeated}
 use Rattle.rl_grammar.specs.declared.syntax.Scanner.{Scanner}
+use Rattle.rl_grammar.specs.declared.syntax.StateKind.{StateKind}
+use Rattle.rl_grammar.specs.declared.syntax.StateKind.TheVariants as kind
 use Rattle.rl_grammar.specs.declared.syntax.Union.{Union}
 use Rattle.rl_grammar.specs.declared.syntax.UnionPart.{UnionPart}
 use Rattle.rl_grammar.specs.declared.syntax.Operand.TheOpen.{Operand-F, Concatenation-F, ConcatenationPart-F, Embedded-F, Negated-F, Pattern-F, Repeated-F, Scanner-F, Union-F, UnionPart-F}
@@ -40,8 +42,8 @@ pub data Event : Type 0 where
   Code : Word → Event
   -- the name of a priority
   Priority : Word → Event
-  -- a condition begins
-  When : Place → Event
+  -- an action that may have no control statements: where it is asked for, and which it is
+  Quiet : Place → ActionUse → Event
   -- a scanner begins
   Scan : Place → Event
 
@@ -55,7 +57,7 @@ seen (shown.Name w) = Name w.now
 seen (shown.Action w) = Action w.now
 seen (shown.Code w) = Code w.now
 seen (shown.Priority w) = Priority w.now
-seen (shown.When place) = When place
+seen (shown.Quiet place a) = Quiet place a.now
 seen (shown.Scan place) = Scan place
 
 -- ---- embeddings
@@ -73,10 +75,17 @@ abbrev pub labelled : Label → Found
 labelled (label.Action a) = used a
 labelled (label.Priority p) = ranked p
 
+-- to-state and from-state actions
+abbrev pub marked : StateKind → Place → ActionUse → Found
+marked kind.To place a = Quiet place a ∷ []
+marked kind.From place a = Quiet place a ∷ []
+marked kind.Eof place a = []
+marked kind.Error place a = []
+
 abbrev pub embedding_events : Embedding → Found
 embedding_events (embedding.Transition sign l) = labelled l
-embedding_events (embedding.State mark a) = used a
-embedding_events (embedding.When place a) = When place ∷ used a
+embedding_events (embedding.State mark a) = marked mark.kind mark.place a ++ used a
+embedding_events (embedding.When place a) = Quiet place a ∷ used a
 
 abbrev pub token_events : Option PatternAction → Found
 token_events None = []

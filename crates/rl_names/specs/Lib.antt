@@ -2,13 +2,14 @@ pub mod Answers
 pub mod Values
 pub mod Places
 pub mod Leaves
+pub mod Codes
 pub mod Events
 pub mod Uses
 pub mod Names
 pub mod TableForms
 pub mod Tables
-pub mod Codes
 pub mod Frames
+pub mod Entries
 pub mod Actions
 pub mod Priorities
 pub mod Checks

@@ -1,15 +1,18 @@
--- The names of a source, in text order: the first one that is not defined earlier, that is defined twice, or that is one
--- too many.
+-- The names of a source and the codes of its actions, in text order: the first name that is not defined earlier, that is
+-- defined twice, or that is one too many; the first word of code that is misplaced, or statement that is one too many; and
+-- the first use of an action with control statements where it may have none.
 use Rattle.std.specs.Prelude.{ℕ, ◌+◌, Bool, false, not, ◌&&◌, ◌||◌, nat_lt, if◌then◌else◌, List, [], ◌∷◌, ◌++◌, Option, Some, None, is_some, unwrap_or}
 use Rattle.std.specs.Map.{lookup}
 use Rattle.std.specs.List.{flat_map, list_any}
 use Rattle.std.specs.Str.{bytes_eq}
-use Rattle.rl_types.specs.declared.faults.FaultKind.TheVariants.{F5, F6}
+use Rattle.rl_types.specs.declared.faults.FaultKind.TheVariants.{F5, F6, F13}
 use Rattle.rl_types.specs.declared.faults.LimitKind.TheVariants.{L9}
 use Rattle.rl_types.specs.declared.numbers.Place.{Place}
 use Rattle.rl_grammar.specs.declared.read_fault.ReadFault.{ReadFault}
 use Rattle.rl_grammar.specs.declared.read_fault.ReadFault.TheVariants as reason
 use Rattle.rl_grammar.specs.declared.syntax.Action.{Action}
+use Rattle.rl_grammar.specs.declared.syntax.ActionUse.{ActionUse}
+use Rattle.rl_grammar.specs.declared.syntax.ActionUse.TheVariants as action
 use Rattle.rl_grammar.specs.declared.syntax.Definition.{Definition}
 use Rattle.rl_grammar.specs.declared.syntax.Statement.{Statement}
 use Rattle.rl_grammar.specs.declared.syntax.Statement.TheVariants as statement
@@ -17,9 +20,10 @@ use Rattle.rl_grammar.specs.declared.syntax.Word.{Word}
 use Rattle.rl_grammar.specs.declared.syntax.WriteKind.{WriteKind}
 use Rattle.rl_grammar.specs.declared.syntax.WriteKind.TheVariants as written
 use Rattle.rl_names.specs.Answers.{or_else}
+use Rattle.rl_names.specs.Codes.{has_statements, code_fault}
 use Rattle.rl_names.specs.Events.{Event, Found, union_events}
 use Rattle.rl_names.specs.Events as event
-use Rattle.rl_names.specs.Leaves.{is_built_in}
+use Rattle.rl_names.specs.Leaves.{is_built_in, fault_at}
 use Rattle.rl_names.specs.Values.{scanner_of}
 use Rattle.rl_grammar.specs.declared.step.Step.{Step}
 
@@ -44,8 +48,9 @@ abbrev pub defined_by : List ℕ → Statement → List (Named × Bool)
 defined_by machine (statement.Definition d) = ((machine, d.name.text), not (is_some (scanner_of d.value))) ∷ []
 defined_by machine _ = []
 
-abbrev pub action_by : List ℕ → Statement → List Named
-action_by machine (statement.Action a) = (machine, a.name.text) ∷ []
+-- The action that a statement defines, and whether it has control statements.
+abbrev pub action_by : List ℕ → Statement → List (Named × Bool)
+action_by machine (statement.Action a) = ((machine, a.name.text), has_statements a.code.text) ∷ []
 action_by machine _ = []
 
 -- the data of a machine, which are written once
@@ -61,7 +66,7 @@ written_by machine _ = []
 -- what is defined by statements, those of all machines
 pub record Known : Type 0 where
   pub defined : List (Named × Bool)
-  pub actions : List Named
+  pub actions : List (Named × Bool)
   pub written : List (List ℕ)
 
 abbrev pub known : List Step → Known
@@ -115,13 +120,28 @@ expression_fault k machine w = unless (is_built_in w.text || unwrap_or (said_of 
 
 -- an action that is used is defined earlier
 abbrev pub embedded_fault : Known → List ℕ → Word → Option ReadFault
-embedded_fault k machine w = unless (is_among machine w.text k.actions) (unknown w.place)
+embedded_fault k machine w = unless (is_some (said_of (machine, w.text) k.actions)) (unknown w.place)
+
+-- an action that is used has control statements
+abbrev pub steers : Known → List ℕ → ActionUse → Bool
+steers k machine (action.Name w) = unwrap_or (said_of (machine, w.text) k.actions) false
+steers k machine (action.Group opening w closing) = unwrap_or (said_of (machine, w.text) k.actions) false
+steers k machine (action.Code w) = has_statements w.text
+
+-- an action that may have no control statements
+abbrev pub quiet_fault : Known → List ℕ → Place → ActionUse → Option ReadFault
+quiet_fault k machine place a = unless (not (steers k machine a)) (fault_at F13 place)
+
+-- an action without a name behind n names, with its code
+abbrev pub anonymous_fault : ℕ → Word → Option ReadFault
+anonymous_fault n w = or_else (counted n w.place) (code_fault w)
 
 -- what an expression of the machine uses behind n names
 abbrev pub use_fault : Known → List ℕ → ℕ → Event → Option ReadFault
 use_fault k machine n (event.Name w) = expression_fault k machine w
 use_fault k machine n (event.Action w) = embedded_fault k machine w
-use_fault k machine n (event.Code w) = counted n w.place
+use_fault k machine n (event.Code w) = anonymous_fault n w
+use_fault k machine n (event.Quiet place a) = quiet_fault k machine place a
 use_fault k machine n _ = None
 
 -- the first fault of what is used behind n names
@@ -137,8 +157,12 @@ abbrev pub definition_fault : Known → List ℕ → ℕ → Definition → Opti
 definition_fault k machine n d =
     or_else (name_fault k machine d.name) (or_else (counted n d.name.place) (uses_fault k machine (n + 1) (union_events d.value)))
 
+-- a name of an action is new
+abbrev pub action_name_fault : Known → List ℕ → Word → Option ReadFault
+action_name_fault k machine w = unless (not (is_some (said_of (machine, w.text) k.actions))) (twice w.place)
+
 abbrev pub action_fault : Known → List ℕ → ℕ → Action → Option ReadFault
-action_fault k machine n a = or_else (unless (not (is_among machine a.name.text k.actions)) (twice a.name.place)) (counted n a.name.place)
+action_fault k machine n a = or_else (action_name_fault k machine a.name) (or_else (counted n a.name.place) (code_fault a.code))
 
 abbrev pub data_fault : Known → List ℕ → Place → WriteKind → Option ReadFault
 data_fault k machine start (written.Data place) = unless (not (list_any (bytes_eq machine) k.written)) (twice start)

@@ -6,7 +6,7 @@ use Rattle.indexmap.specs.IndexMap.{IndexMap}
 use Rattle.indexmap.specs.IndexSet.{IndexSet}
 use Rattle.rl_types.specs.declared.alphabet.Alphabet.{Alphabet}
 use Rattle.rl_types.specs.declared.alphabet.Alphabet.TheVariants.{Char}
-use Rattle.rl_names.specs.Names.{Named}
+use Rattle.rl_names.specs.Names.{Named, is_among}
 use Rattle.rl_grammar.specs.declared.step.Step.{Step}
 use denote.Ref.{Bor}
 
@@ -22,6 +22,10 @@ texts table = map (λ k. k.now) table.keys
 
 abbrev pub pairs : {S : Type 0} → IndexSet (Text × Text) S → List Named
 pairs table = map named table.keys
+
+-- a machine has a name in a table
+abbrev pub has_in : {S : Type 0} → List ℕ → IndexSet (Text × Text) S → List ℕ → Bool
+has_in machine table name = is_among machine name (pairs table)
 
 -- the names of a table, in order, and what is said of them
 abbrev pub entries : {S : Type 0} → IndexMap (Text × Text) Bool S → List (Named × Bool)

@@ -5,11 +5,11 @@ use Rattle.rl_grammar.specs.declared.read_fault.ReadFault.{ReadFault}
 use Rattle.rl_grammar.specs.declared.syntax.Statement.{Statement}
 use Rattle.rl_names.specs.Answers.{Told}
 use Rattle.rl_names.specs.Names.{Known, defined_by, action_by, written_by, names_by}
-use Rattle.rl_names.specs.TableForms.{texts, pairs, entries, count_in}
+use Rattle.rl_names.specs.TableForms.{texts, entries, count_in}
 use Rattle.rl_names.specs.declared.tables.Tables.{Tables}
 
 abbrev pub seen : Tables → Known
-seen t = record { defined = entries t.defined; actions = pairs t.actions; written = texts t.written }
+seen t = record { defined = entries t.defined; actions = entries t.actions; written = texts t.written }
 
 -- what is known behind one more statement
 abbrev pub behind : Known → List ℕ → Statement → Known

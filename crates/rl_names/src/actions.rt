@@ -6,9 +6,11 @@ ghost use Rattle.rl_names.specs.Answers.{Explains};
 ghost use Rattle.rl_names.specs.Events.{seen as shown, union_events};
 ghost use Rattle.rl_names.specs.TableForms.{texts, pointed};
 
+use crate::entries::entries_of;
 use crate::events::{Event, events_of};
 use crate::frames::is_of;
 use crate::memory::{fault_at, name_of, push};
+use crate::statements::statements_in;
 use crate::texts::{Texts, put};
 use indexmap::IndexSet;
 use itoa::Buffer;
@@ -64,73 +66,97 @@ fn code_of(alloc: Global, bytes: &[u8]) -> Result<Code, ReadFault>
     }
 }
 
-fn action_def(alloc: Global, name: &[u8], code: &Word) -> Result<ActionDef, ReadFault>
-    ensures { MatchResult result (λ a. a ≡ actions.action_def name.now code.now) (λ e. e ≡ reason.Memory) }
+fn action_def(
+    alloc: Global,
+    entries: &Texts<'_>,
+    name: &[u8],
+    code: &Word,
+) -> Result<ActionDef, ReadFault>
+    ensures { MatchResult result (λ a. a ≡ actions.action_def (texts entries.now) name.now code.now) (λ e. e ≡ reason.Memory) }
 {
     let name = name_of(alloc, name)?;
     let text = code_of(alloc, code.text.as_slice())?;
+    let statements = statements_in(alloc, entries, code.text.as_slice())?;
     Ok(ActionDef {
         name,
         code: text,
-        statements: List::new(alloc),
+        statements,
         place: code.place,
     })
 }
 
-fn add(alloc: Global, list: &mut List<ActionDef>, name: &[u8], code: &Word) -> Result<(), ReadFault>
-    ensures { MatchResult result (λ _. list.new ≡ list.old ++ actions.action_def name.now code.now ∷ []) (λ e. e ≡ reason.Memory) }
+fn add(
+    alloc: Global,
+    entries: &Texts<'_>,
+    list: &mut List<ActionDef>,
+    name: &[u8],
+    code: &Word,
+) -> Result<(), ReadFault>
+    ensures { MatchResult result (λ _. list.new ≡ list.old ++ actions.action_def (texts entries.now) name.now code.now ∷ []) (λ e. e ≡ reason.Memory) }
 {
-    let action = action_def(alloc, name, code)?;
+    let action = action_def(alloc, entries, name, code)?;
     push(list, action)
 }
 
-fn used(alloc: Global, list: &mut List<ActionDef>, event: &Event<'_>) -> Result<(), ReadFault>
-    ensures { MatchResult result (λ _. list.new ≡ actions.action_used list.old (shown event.now)) (λ e. e ≡ reason.Memory) }
+fn used(
+    alloc: Global,
+    entries: &Texts<'_>,
+    list: &mut List<ActionDef>,
+    event: &Event<'_>,
+) -> Result<(), ReadFault>
+    ensures { MatchResult result (λ _. list.new ≡ actions.action_used (texts entries.now) list.old (shown event.now)) (λ e. e ≡ reason.Memory) }
 {
     match event {
         Event::Code(word) => {
             let name = anonymous_name(alloc, word.place)?;
-            add(alloc, list, name.as_slice(), word)
+            add(alloc, entries, list, name.as_slice(), word)
         }
         Event::Leaf(_)
         | Event::Name(_)
         | Event::Action(_)
         | Event::Priority(_)
-        | Event::When(_)
+        | Event::Quiet(_, _)
         | Event::Scan(_) => Ok(()),
     }
 }
 
 fn all_used(
     alloc: Global,
+    entries: &Texts<'_>,
     list: &mut List<ActionDef>,
     events: &[Event<'_>],
 ) -> Result<(), ReadFault>
-    ensures { MatchResult result (λ _. list.new ≡ fold actions.action_used list.old (map shown events.now)) (λ e. e ≡ reason.Memory) }
+    ensures { MatchResult result (λ _. list.new ≡ fold (actions.action_used (texts entries.now)) list.old (map shown events.now)) (λ e. e ≡ reason.Memory) }
 {
     for event in events {
-        used(alloc, list, event)?;
+        used(alloc, entries, list, event)?;
     }
     Ok(())
 }
 
-fn value_used(alloc: Global, list: &mut List<ActionDef>, value: &Union) -> Result<(), ReadFault>
-    ensures { MatchResult result (λ _. list.new ≡ fold actions.action_used list.old (union_events value.now)) (λ e. e ≡ reason.Memory) }
+fn value_used(
+    alloc: Global,
+    entries: &Texts<'_>,
+    list: &mut List<ActionDef>,
+    value: &Union,
+) -> Result<(), ReadFault>
+    ensures { MatchResult result (λ _. list.new ≡ fold (actions.action_used (texts entries.now)) list.old (union_events value.now)) (λ e. e ≡ reason.Memory) }
 {
     let events = events_of(alloc, value)?;
-    all_used(alloc, list, events.as_slice())
+    all_used(alloc, entries, list, events.as_slice())
 }
 
 fn by_statement(
     alloc: Global,
+    entries: &Texts<'_>,
     list: &mut List<ActionDef>,
     statement: &Statement,
 ) -> Result<(), ReadFault>
-    ensures { MatchResult result (λ _. list.new ≡ actions.actions_by list.old statement.now) (λ e. e ≡ reason.Memory) }
+    ensures { MatchResult result (λ _. list.new ≡ actions.actions_by (texts entries.now) list.old statement.now) (λ e. e ≡ reason.Memory) }
 {
     match statement {
-        Statement::Action(one) => add(alloc, list, one.name.text.as_slice(), &one.code),
-        Statement::Definition(one) => value_used(alloc, list, &one.value),
+        Statement::Action(one) => { add(alloc, entries, list, one.name.text.as_slice(), &one.code) }
+        Statement::Definition(one) => value_used(alloc, entries, list, &one.value),
         Statement::Machine(_)
         | Statement::Include(_)
         | Statement::Alphtype(_)
@@ -142,17 +168,34 @@ fn by_statement(
 
 fn behind(
     alloc: Global,
+    entries: &Texts<'_>,
     machine: &[u8],
     list: &mut List<ActionDef>,
     step: &Step,
 ) -> Result<(), ReadFault>
-    ensures { MatchResult result (λ _. list.new ≡ actions.actions_behind machine.now list.old step.now) (λ e. e ≡ reason.Memory) }
+    ensures { MatchResult result (λ _. list.new ≡ actions.actions_behind (texts entries.now) machine.now list.old step.now) (λ e. e ≡ reason.Memory) }
 {
     if is_of(machine, step) {
-        by_statement(alloc, list, &step.statement)
+        by_statement(alloc, entries, list, &step.statement)
     } else {
         Ok(())
     }
+}
+
+/// The actions of a machine that has these entries.
+fn actions_among(
+    alloc: Global,
+    entries: &Texts<'_>,
+    machine: &[u8],
+    own: &[&Step],
+) -> Result<List<ActionDef>, ReadFault>
+    ensures { MatchResult result (λ list. list ≡ fold (actions.actions_behind (texts entries.now) machine.now) [] (pointed own.now)) (λ e. e ≡ reason.Memory) }
+{
+    let mut list = List::new(alloc);
+    for step in own {
+        behind(alloc, entries, machine, &mut list, *step)?;
+    }
+    Ok(list)
 }
 
 /// The actions of a machine.
@@ -163,11 +206,8 @@ pub fn actions_of(
 ) -> Result<List<ActionDef>, ReadFault>
     ensures { MatchResult result (λ list. list ≡ actions.actions_of machine.now (pointed own.now)) (λ e. e ≡ reason.Memory) }
 {
-    let mut list = List::new(alloc);
-    for step in own {
-        behind(alloc, machine, &mut list, *step)?;
-    }
-    Ok(list)
+    let entries = entries_of(alloc, machine, own)?;
+    actions_among(alloc, &entries, machine, own)
 }
 
 fn put_name<'a>(names: &mut Texts<'a>, action: &'a ActionDef) -> Result<(), ReadFault>

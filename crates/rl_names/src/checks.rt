@@ -1,41 +1,57 @@
-// The faults of keys, and what is not built yet: the first of each in text order.
-ghost use Rattle.std.specs.Prelude.{map};
+// The faults of keys and of entries, and what is not built yet: the first of each in text order.
+ghost use Rattle.std.specs.Prelude.{◌≡◌, ℕ, List, map};
 ghost use Rattle.rl_names.specs.Answers.{Tells, Shows, first_of};
 ghost use Rattle.rl_names.specs.Checks as checks;
 ghost use Rattle.rl_names.specs.Events.{seen as shown};
+ghost use Rattle.rl_names.specs.Entries.{is_entry};
+ghost use Rattle.rl_names.specs.Frames.{alphabet_of};
+ghost use Rattle.rl_names.specs.TableForms.{alphabet_in, has_in};
 
-use crate::alphabets::{alphabet_in, alphabets_of};
-use crate::code::steers;
+use crate::alphabets::{Alphabets, alphabet_in, alphabets_of};
 use crate::events::{Event, events_of};
+use crate::instances::{Instances, entries, instances_of};
 use crate::leaves::leaf_of;
 use crate::memory::{NameFault, fault_at};
-use rl_grammar::syntax::{Statement, Word};
+use rl_grammar::syntax::Statement;
 use rl_grammar::{ReadFault, Step};
 use rl_types::{Alphabet, FaultKind};
 use std::alloc::Global;
 
-fn leaf(alloc: Global, alphabet: Alphabet, event: &Event<'_>) -> Result<(), ReadFault>
-    ensures { Tells (checks.leaf_fault alphabet (shown event.now)) result }
+/// The keys and entries that an expression uses.
+fn leaf(
+    alloc: Global,
+    alphabet: Alphabet,
+    instances: &Instances<'_>,
+    machine: &[u8],
+    event: &Event<'_>,
+) -> Result<(), ReadFault>
+    ensures { Tells (checks.leaf_fault alphabet (has_in machine.now instances.now) (shown event.now)) result }
 {
     match event {
         Event::Leaf(operand) => match leaf_of(alloc, alphabet, operand) {
             Ok(_) => Ok(()),
             Err(fault) => Err(fault),
         },
+        Event::Code(word) => entries(alloc, instances, machine, word),
         Event::Name(_)
         | Event::Action(_)
-        | Event::Code(_)
         | Event::Priority(_)
-        | Event::When(_)
+        | Event::Quiet(_, _)
         | Event::Scan(_) => Ok(()),
     }
 }
 
-fn leaves(alloc: Global, alphabet: Alphabet, events: &[Event<'_>]) -> Result<(), ReadFault>
-    ensures { Tells (first_of (checks.leaf_fault alphabet) (map shown events.now)) result }
+fn leaves(
+    alloc: Global,
+    alphabet: Alphabet,
+    instances: &Instances<'_>,
+    machine: &[u8],
+    events: &[Event<'_>],
+) -> Result<(), ReadFault>
+    ensures { Tells (first_of (checks.leaf_fault alphabet (has_in machine.now instances.now)) (map shown events.now)) result }
 {
     for event in events {
-        leaf(alloc, alphabet, event)?;
+        leaf(alloc, alphabet, instances, machine, event)?;
     }
     Ok(())
 }
@@ -43,59 +59,75 @@ fn leaves(alloc: Global, alphabet: Alphabet, events: &[Event<'_>]) -> Result<(),
 fn statement_leaves(
     alloc: Global,
     alphabet: Alphabet,
+    instances: &Instances<'_>,
+    machine: &[u8],
     statement: &Statement,
 ) -> Result<(), ReadFault>
-    ensures { Tells (checks.statement_leaf_fault alphabet statement.now) result }
+    ensures { Tells (checks.statement_leaf_fault alphabet (has_in machine.now instances.now) statement.now) result }
 {
     match statement {
         Statement::Definition(one) => {
             let events = events_of(alloc, &one.value)?;
-            leaves(alloc, alphabet, events.as_slice())
+            leaves(alloc, alphabet, instances, machine, events.as_slice())
         }
+        Statement::Action(one) => entries(alloc, instances, machine, &one.code),
         Statement::Machine(_)
         | Statement::Include(_)
         | Statement::Alphtype(_)
         | Statement::Access(_)
         | Statement::Variable(_)
-        | Statement::Write(_)
-        | Statement::Action(_) => Ok(()),
+        | Statement::Write(_) => Ok(()),
     }
 }
 
-/// Whether the keys of a source are good; the error is the first fault of them in text order.
+/// The keys and entries of a step among all.
+fn step_leaves(
+    alloc: Global,
+    alphabets: &Alphabets<'_>,
+    instances: &Instances<'_>,
+    steps: &[Step],
+    step: &Step,
+) -> Result<(), ReadFault>
+    requires alphabets { (x : List ℕ) → alphabet_in x alphabets.now ≡ alphabet_of x steps.now }
+    requires instances { (m n : List ℕ) → has_in m instances.now n ≡ is_entry m steps.now n }
+    ensures { Tells (checks.step_leaf_fault steps.now step.now) result }
+{
+    let _ = steps;
+    let machine = step.machine.bytes();
+    let alphabet = alphabet_in(alphabets, machine);
+    statement_leaves(alloc, alphabet, instances, machine, &step.statement)
+}
+
+/// Whether the keys of a source are good, and the entries that its code names; the error is the first fault of them in text
+/// order.
 ///
 /// F8 stands at a key outside the alphabet of its machine, which the machine's last `alphtype` names (5.2; this profile);
-/// F9 at a range whose lower end is above the upper one, or at the set or regular expression that has it (2.3). Memory may
-/// be wanted at any time.
+/// F9 at a range whose lower end is above the upper one, or at the set or regular expression that has it (2.3); F16 at a
+/// word of code that names no instantiation of its machine, which may stand behind it (6.1). Memory may be wanted at any
+/// time.
 pub fn check_leaves(alloc: Global, steps: &[Step]) -> Result<(), NameFault>
     ensures { Tells (checks.leaves_fault steps.now) result }
 {
     let alphabets = alphabets_of(alloc, steps)?;
+    let instances = instances_of(alloc, steps)?;
     for step in steps {
-        let alphabet = alphabet_in(&alphabets, step.machine.bytes());
-        statement_leaves(alloc, alphabet, &step.statement)?;
+        step_leaves(alloc, &alphabets, &instances, steps, step)?;
     }
     Ok(())
 }
 
-fn built_code(word: &Word) -> Result<(), ReadFault>
-    ensures { Shows (checks.code_unbuilt word.now) result }
-{
-    if steers(word.text.as_slice()) {
-        Err(fault_at(FaultKind::F20, word.place))
-    } else {
-        Ok(())
-    }
-}
-
-/// What is not built yet: conditions, scanners, and code that steers the run.
+/// What is not built yet: scanners.
 fn built(event: &Event<'_>) -> Result<(), ReadFault>
     ensures { Shows (checks.unbuilt (shown event.now)) result }
 {
     match event {
-        Event::When(place) | Event::Scan(place) => Err(fault_at(FaultKind::F20, *place)),
-        Event::Code(word) => built_code(word),
-        Event::Leaf(_) | Event::Name(_) | Event::Action(_) | Event::Priority(_) => Ok(()),
+        Event::Scan(place) => Err(fault_at(FaultKind::F20, *place)),
+        Event::Leaf(_)
+        | Event::Name(_)
+        | Event::Action(_)
+        | Event::Code(_)
+        | Event::Priority(_)
+        | Event::Quiet(_, _) => Ok(()),
     }
 }
 
@@ -116,8 +148,8 @@ fn statement_built(alloc: Global, statement: &Statement) -> Result<(), ReadFault
             let events = events_of(alloc, &one.value)?;
             all_built(events.as_slice())
         }
-        Statement::Action(one) => built_code(&one.code),
-        Statement::Machine(_)
+        Statement::Action(_)
+        | Statement::Machine(_)
         | Statement::Include(_)
         | Statement::Alphtype(_)
         | Statement::Access(_)
@@ -126,8 +158,7 @@ fn statement_built(alloc: Global, statement: &Statement) -> Result<(), ReadFault
     }
 }
 
-/// Whether all that a source says is built; the error is F20 at the first construct in text order that is not built yet
-/// (this profile): a `when`, a scanner, and an action's code with control statements or values of states in it. Memory may
+/// Whether all that a source says is built; the error is F20 at the first scanner in text order (this profile). Memory may
 /// be wanted at any time.
 pub fn check_built(alloc: Global, steps: &[Step]) -> Result<(), NameFault>
     ensures { Tells (checks.unbuilt_fault steps.now) result }

@@ -8,7 +8,7 @@ ghost use Rattle.rl_names.specs.Uses as inner;
 use rl_grammar::ReadFault;
 use rl_grammar::syntax::{
     ActionUse, Concatenation, ConcatenationPart, Embedded, Embedding, Label, Operand, Pattern,
-    PatternAction, Priority, Scanner, Union, UnionPart, Word,
+    PatternAction, Priority, Scanner, StateKind, Union, UnionPart, Word,
 };
 use rl_types::{Memory, Place};
 use std::alloc::Global;
@@ -26,8 +26,8 @@ pub enum Event<'a> {
     Code(&'a Word),
     /// The name of a priority.
     Priority(&'a Word),
-    /// A condition begins.
-    When(Place),
+    /// An action that may have no control statements: where it is asked for, and which it is.
+    Quiet(Place, &'a ActionUse),
     /// A scanner begins.
     Scan(Place),
 }
@@ -59,14 +59,32 @@ fn labelled<'a>(found: &mut Found<'a>, label: &'a Label) -> Result<(), Memory>
     }
 }
 
+/// To-state and from-state actions may have no control statements.
+fn marked<'a>(
+    found: &mut Found<'a>,
+    kind: StateKind,
+    place: Place,
+    action: &'a ActionUse,
+) -> Result<(), Memory>
+    ensures { OnOk result (map events.seen found.new.items ≡ map events.seen found.old.items ++ events.marked kind place action.now) }
+{
+    match kind {
+        StateKind::To | StateKind::From => push(found, Event::Quiet(place, action)),
+        StateKind::Eof | StateKind::Error => Ok(()),
+    }
+}
+
 fn embedding<'a>(found: &mut Found<'a>, embedding: &'a Embedding) -> Result<(), Memory>
     ensures { OnOk result (map events.seen found.new.items ≡ map events.seen found.old.items ++ events.embedding_events embedding.now) }
 {
     match embedding {
         Embedding::Transition(_, label) => labelled(found, label),
-        Embedding::State(_, action) => used(found, action),
+        Embedding::State(mark, action) => {
+            marked(found, mark.kind, mark.place, action)?;
+            used(found, action)
+        }
         Embedding::When(place, action) => {
-            push(found, Event::When(*place))?;
+            push(found, Event::Quiet(*place, action))?;
             used(found, action)
         }
     }

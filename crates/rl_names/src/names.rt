@@ -1,5 +1,6 @@
-// The first fault of names, in text order.
+// The first fault of names and of the codes of actions, in text order.
 ghost use Rattle.std.specs.Prelude.{◌≡◌, ◌+◌, ℕ, List, [], None, Some, map, MatchResult, OnOk, unwrap_or, false};
+ghost use Rattle.rl_grammar.specs.declared.read_fault.ReadFault.TheVariants as reason;
 ghost use Rattle.rl_grammar.specs.declared.syntax.Statement.TheVariants as statement;
 ghost use Rattle.rl_names.specs.Answers.{Told, Tells, Shows};
 ghost use Rattle.rl_names.specs.Events.{seen as shown, union_events};
@@ -7,13 +8,14 @@ ghost use Rattle.rl_names.specs.Names as names;
 ghost use Rattle.rl_names.specs.TableForms.{count_in};
 ghost use Rattle.rl_names.specs.Tables.{seen, Notes};
 
+use crate::codes::{code, has_statements};
 use crate::events::{Event, events_of};
 use crate::memory::{NameFault, fault_at};
-use crate::tables::{Tables, add, add_text, count_of, define, is_among, said_of, set_count};
+use crate::tables::{Tables, add_text, count_of, define, said_of, set_count};
 use crate::texts::has;
 use crate::values::scanner_of;
 use indexmap::{IndexMap, IndexSet};
-use rl_grammar::syntax::{Action, Definition, Statement, Union, Word, Write, WriteKind};
+use rl_grammar::syntax::{Action, ActionUse, Definition, Statement, Union, Word, Write, WriteKind};
 use rl_grammar::{ReadFault, Step};
 use rl_leaves::is_built_in;
 use rl_types::{FaultKind, Limit, LimitKind, Place};
@@ -61,22 +63,75 @@ fn expression(tables: &Tables<'_>, machine: &[u8], word: &Word) -> Result<(), Re
 fn embedded(tables: &Tables<'_>, machine: &[u8], word: &Word) -> Result<(), ReadFault>
     ensures { Shows (names.embedded_fault (seen tables.now) machine.now word.now) result }
 {
-    if is_among(&tables.actions, machine, word.text.as_slice()) {
-        Ok(())
-    } else {
-        Err(fault_at(FaultKind::F5, word.place))
+    match said_of(&tables.actions, machine, word.text.as_slice()) {
+        Some(_) => Ok(()),
+        None => Err(fault_at(FaultKind::F5, word.place)),
     }
+}
+
+/// Whether an action that is defined earlier has control statements.
+fn named_steers(tables: &Tables<'_>, machine: &[u8], name: &[u8]) -> bool
+    ensures { result ≡ unwrap_or (names.said_of (machine.now, name.now) (seen tables.now).actions) false }
+{
+    match said_of(&tables.actions, machine, name) {
+        Some(steers) => steers,
+        None => false,
+    }
+}
+
+/// Whether an action that is used has control statements.
+fn steers(
+    alloc: Global,
+    tables: &Tables<'_>,
+    machine: &[u8],
+    action: &ActionUse,
+) -> Result<bool, ReadFault>
+    ensures { MatchResult result (λ b. b ≡ names.steers (seen tables.now) machine.now action.now) (λ e. e ≡ reason.Memory) }
+{
+    match action {
+        ActionUse::Name(word) | ActionUse::Group(_, word, _) => {
+            Ok(named_steers(tables, machine, word.text.as_slice()))
+        }
+        ActionUse::Code(word) => has_statements(alloc, word.text.as_slice()),
+    }
+}
+
+/// An action that may have no control statements.
+fn quiet(
+    alloc: Global,
+    tables: &Tables<'_>,
+    machine: &[u8],
+    place: Place,
+    action: &ActionUse,
+) -> Result<(), ReadFault>
+    ensures { Tells (names.quiet_fault (seen tables.now) machine.now place action.now) result }
+{
+    if steers(alloc, tables, machine, action)? {
+        Err(fault_at(FaultKind::F13, place))
+    } else {
+        Ok(())
+    }
+}
+
+/// How many names there are with an action without a name.
+fn anonymous(alloc: Global, count: u32, word: &Word) -> Result<u32, ReadFault>
+    ensures { MatchResult result (λ n. (names.anonymous_fault count word.now ≡ None) × (n ≡ count + 1)) (Told (names.anonymous_fault count word.now)) }
+{
+    let count = counted(count, word.place)?;
+    code(alloc, word)?;
+    Ok(count)
 }
 
 /// How many names there are behind one of the things that an expression uses.
 fn used(
+    alloc: Global,
     tables: &Tables<'_>,
     machine: &[u8],
     count: u32,
     event: &Event<'_>,
 ) -> Result<u32, ReadFault>
     ensures { MatchResult result (λ n. (names.use_fault (seen tables.now) machine.now count (shown event.now) ≡ None) × (n ≡ count + names.is_code (shown event.now)))
-        (λ e. names.use_fault (seen tables.now) machine.now count (shown event.now) ≡ Some e) }
+        (Told (names.use_fault (seen tables.now) machine.now count (shown event.now))) }
 {
     match event {
         Event::Name(word) => {
@@ -87,24 +142,29 @@ fn used(
             embedded(tables, machine, word)?;
             Ok(count)
         }
-        Event::Code(word) => counted(count, word.place),
-        Event::Leaf(_) | Event::Priority(_) | Event::When(_) | Event::Scan(_) => Ok(count),
+        Event::Code(word) => anonymous(alloc, count, word),
+        Event::Quiet(place, action) => {
+            quiet(alloc, tables, machine, *place, action)?;
+            Ok(count)
+        }
+        Event::Leaf(_) | Event::Priority(_) | Event::Scan(_) => Ok(count),
     }
 }
 
 /// How many names there are behind all that an expression uses.
 fn all_used(
+    alloc: Global,
     tables: &Tables<'_>,
     machine: &[u8],
     count: u32,
     events: &[Event<'_>],
 ) -> Result<u32, ReadFault>
     ensures { MatchResult result (λ n. (names.uses_fault (seen tables.now) machine.now count (map shown events.now) ≡ None) × (n ≡ count + names.codes_in (map shown events.now)))
-        (λ e. names.uses_fault (seen tables.now) machine.now count (map shown events.now) ≡ Some e) }
+        (Told (names.uses_fault (seen tables.now) machine.now count (map shown events.now))) }
 {
     let mut behind = count;
     for event in events {
-        behind = used(tables, machine, behind, event)?;
+        behind = used(alloc, tables, machine, behind, event)?;
     }
     Ok(behind)
 }
@@ -121,7 +181,7 @@ fn value_used(
         (Told (names.uses_fault (seen tables.now) machine.now count (union_events value.now))) }
 {
     let events = events_of(alloc, value)?;
-    all_used(tables, machine, count, events.as_slice())
+    all_used(alloc, tables, machine, count, events.as_slice())
 }
 
 /// A name of an expression is new, and not built in.
@@ -160,18 +220,34 @@ fn definition<'a>(
     set_count(&mut tables.counts, machine, count)
 }
 
+/// A name of an action is new.
+fn unused(tables: &Tables<'_>, machine: &[u8], name: &Word) -> Result<(), ReadFault>
+    ensures due { Shows (names.action_name_fault (seen tables.now) machine.now name.now) result }
+    ensures absent { OnOk result (names.said_of (machine.now, name.now.text) (seen tables.now).actions ≡ None) }
+{
+    match said_of(&tables.actions, machine, name.text.as_slice()) {
+        Some(_) => Err(fault_at(FaultKind::F6, name.place)),
+        None => Ok(()),
+    }
+}
+
 fn action<'a>(
+    alloc: Global,
     tables: &mut Tables<'a>,
     machine: &'a [u8],
     action: &'a Action,
 ) -> Result<(), ReadFault>
     ensures { Notes (names.action_fault (seen tables.old) machine.now (count_in machine.now tables.old.counts) action.now) machine.now (statement.Action action.now) tables.old tables.new result }
 {
-    if is_among(&tables.actions, machine, action.name.text.as_slice()) {
-        return Err(fault_at(FaultKind::F6, action.name.place));
-    }
+    unused(tables, machine, &action.name)?;
     let count = counted(count_of(&tables.counts, machine), action.name.place)?;
-    add(&mut tables.actions, machine, action.name.text.as_slice())?;
+    let steers = code(alloc, &action.code)?;
+    define(
+        &mut tables.actions,
+        machine,
+        action.name.text.as_slice(),
+        steers,
+    )?;
     set_count(&mut tables.counts, machine, count)
 }
 
@@ -199,7 +275,7 @@ fn statement<'a>(
 {
     match statement {
         Statement::Definition(one) => definition(alloc, tables, machine, one),
-        Statement::Action(one) => action(tables, machine, one),
+        Statement::Action(one) => action(alloc, tables, machine, one),
         Statement::Write(one) => data(tables, machine, one),
         Statement::Machine(_)
         | Statement::Include(_)
@@ -220,7 +296,7 @@ fn no_tables<'a>(alloc: Global) -> Tables<'a>
     ensures counts { (x : List ℕ) → count_in x result.counts ≡ 0 }
 {
     let defined = IndexMap::new(alloc);
-    let actions = IndexSet::new(alloc);
+    let actions = IndexMap::new(alloc);
     let written = IndexSet::new(alloc);
     let counts = IndexMap::new(alloc);
     Tables {
@@ -231,13 +307,17 @@ fn no_tables<'a>(alloc: Global) -> Tables<'a>
     }
 }
 
-/// Whether the names of a source are good; the error is the first fault of them in text order.
+/// Whether the names of a source and the codes of its actions are good; the error is the first fault of them in text order.
 ///
 /// F5 stands at the name of an expression (2.1.2) or of an action (chapter 3) that is used and not defined earlier for its
 /// machine, or that names a scanner; F6 at a name that is defined twice for one machine or is built in, and at a machine's
 /// second `write data` (this profile); L9 at the first name of a machine behind 65,535 others, an action without a name
 /// counted at its `{` (this profile). Of one definition F6 at its name comes first, then L9 at its name, then what its
-/// expression uses. Memory may be wanted at any time.
+/// expression uses, or what the code of its action says.
+///
+/// F13 stands at a word of code that is left out or has not its form (3.4, 6.1 to 6.3), and at the sign of a to-state or
+/// from-state embedding (3.6) or the `when` (6.5) whose action has control statements; L10 at the fifth statement of a code
+/// at the outer level that no transfer or `fbreak` stands before (this profile). Memory may be wanted at any time.
 pub fn check_names(alloc: Global, steps: &[Step]) -> Result<(), NameFault>
     ensures { Tells (names.names_fault steps.now) result }
 {

@@ -30,7 +30,7 @@ fn used<'a>(names: &mut Texts<'a>, event: Event<'a>) -> Result<(), ReadFault>
         | Event::Name(_)
         | Event::Action(_)
         | Event::Code(_)
-        | Event::When(_)
+        | Event::Quiet(_, _)
         | Event::Scan(_) => Ok(()),
     }
 }

@@ -3,8 +3,8 @@ ghost use Rattle.std.specs.Prelude.{◌≡◌, ℕ, List, [], ◌∷◌, ◌++�
 ghost use Rattle.std.specs.List.{list_any};
 ghost use Rattle.std.specs.Str.{bytes_eq};
 ghost use Rattle.rl_grammar.specs.declared.read_fault.ReadFault.TheVariants as reason;
-ghost use Rattle.rl_names.specs.Names.{said_of, is_among};
-ghost use Rattle.rl_names.specs.TableForms.{texts, pairs, entries, count_in};
+ghost use Rattle.rl_names.specs.Names.{said_of};
+ghost use Rattle.rl_names.specs.TableForms.{texts, entries, count_in};
 
 use indexmap::{IndexMap, IndexSet};
 use rl_grammar::ReadFault;
@@ -12,7 +12,8 @@ use rl_grammar::ReadFault;
 /// A machine's name, and a name that it has.
 pub type Named<'a> = (&'a [u8], &'a [u8]);
 
-/// The names of expressions, and whether other expressions may use them.
+/// Names with what is said of them: of expressions, whether other expressions may use them; of actions, whether they have
+/// control statements.
 pub type Defined<'a> = IndexMap<Named<'a>, bool>;
 
 /// What is defined so far, of all machines.
@@ -20,14 +21,14 @@ pub type Defined<'a> = IndexMap<Named<'a>, bool>;
 pub struct Tables<'a> {
     pub defined: Defined<'a>,
     /// The names of actions.
-    pub actions: IndexSet<Named<'a>>,
+    pub actions: Defined<'a>,
     /// The machines whose data are written.
     pub written: IndexSet<&'a [u8]>,
     /// How many names a machine has.
     pub counts: IndexMap<&'a [u8], u32>,
 }
 
-/// What is said of a name of an expression.
+/// What is said of a name.
 pub fn said_of(table: &Defined<'_>, machine: &[u8], name: &[u8]) -> Option<bool>
     ensures { result ≡ said_of (machine.now, name.now) (entries table.now) }
 {
@@ -37,39 +38,17 @@ pub fn said_of(table: &Defined<'_>, machine: &[u8], name: &[u8]) -> Option<bool>
     }
 }
 
-/// Notes a name of an expression.
+/// Notes a name with what is said of it.
 pub fn define<'a>(
     table: &mut Defined<'a>,
     machine: &'a [u8],
     name: &'a [u8],
-    usable: bool,
+    said: bool,
 ) -> Result<(), ReadFault>
     requires { said_of (machine.now, name.now) (entries table.old) ≡ None }
-    ensures { MatchResult result (λ _. entries table.new ≡ entries table.old ++ (((machine.now, name.now), usable) ∷ [])) (λ e. e ≡ reason.Memory) }
+    ensures { MatchResult result (λ _. entries table.new ≡ entries table.old ++ (((machine.now, name.now), said) ∷ [])) (λ e. e ≡ reason.Memory) }
 {
-    match table.insert((machine, name), usable) {
-        Ok(_) => Ok(()),
-        Err(_) => Err(ReadFault::Memory),
-    }
-}
-
-/// Whether an action is defined.
-pub fn is_among(table: &IndexSet<Named<'_>>, machine: &[u8], name: &[u8]) -> bool
-    ensures { result ≡ is_among machine.now name.now (pairs table.now) }
-{
-    table.contains(&(machine, name))
-}
-
-/// Notes an action.
-pub fn add<'a>(
-    table: &mut IndexSet<Named<'a>>,
-    machine: &'a [u8],
-    name: &'a [u8],
-) -> Result<(), ReadFault>
-    requires { is_among machine.now name.now (pairs table.old) ≡ false }
-    ensures { MatchResult result (λ _. pairs table.new ≡ pairs table.old ++ ((machine.now, name.now) ∷ [])) (λ e. e ≡ reason.Memory) }
-{
-    match table.insert((machine, name)) {
+    match table.insert((machine, name), said) {
         Ok(_) => Ok(()),
         Err(_) => Err(ReadFault::Memory),
     }

@@ -33,7 +33,8 @@ pub fn put<'a>(table: &mut Texts<'a>, text: &'a [u8]) -> Result<bool, ReadFault>
     }
 }
 
-fn index_of(table: &Texts<'_>, text: &[u8]) -> Option<usize>
+/// The place of a text in the table, from 0.
+pub fn index_of(table: &Texts<'_>, text: &[u8]) -> Option<usize>
     ensures { result ≡ position (bytes_eq text.now) (texts table.now) }
 {
     table.get_index_of(text)

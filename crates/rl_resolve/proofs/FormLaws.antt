@@ -14,39 +14,50 @@ use Rattle.rl_arrays.specs.Names.{is_name, is_action_name}
 use Rattle.rl_model.specs.declared.spec.Entry as rust
 use Rattle.rl_model.specs.declared.spec.ActionDef.{ActionDef}
 use Rattle.rl_model.specs.declared.spec.Spec.{Spec}
-use Rattle.rl_model.specs.Specification.{Root, Plain, Scanner, root_of}
-use Rattle.rl_model.specs.Counts.{root_size, root_depth, trees_of, actions_in, stamps_in}
-use Rattle.rl_model.specs.WellFormed.{IsNumber, IsInAlphabet}
+use Rattle.rl_model.specs.Specification.{Root, Plain, Scanner, action_of, root_of}
+use Rattle.rl_code.specs.Reading.{IsReadAs}
+use Rattle.rl_model.specs.Counts.{root_size, root_depth, trees_of, actions_in, turn_actions_in, stamps_in}
+use Rattle.rl_model.specs.WellFormed.{IsNumber, IsInAlphabet, IsCodeRead, HasNoStatement, outer_statements}
 use Rattle.rl_includes.specs.declared.unrolled.Unrolled.{Unrolled}
 use Rattle.rl_grammar.specs.declared.step.Step.{Step}
 use Rattle.rl_draft.specs.declared.draft.Draft.{Draft}
 use Rattle.rl_names.specs.Answers as names
+use Rattle.rl_names.specs.Checks.{leaves_fault}
 use Rattle.rl_names.specs.Drafts.{draft_of}
 use Rattle.rl_names.specs.Frames.{machines_of}
 use Rattle.rl_names.specs.Names.{names_fault}
 use Rattle.rl_rewrite.specs.Entries.{Made, made_of, meanings, entries, all_conditions, first_limit, IsMade}
 use Rattle.rl_form.specs.declared.scope.Scope.{Scope}
 use Rattle.rl_form.specs.Form.{IsPlain, HasForm}
-use Rattle.rl_form.specs.Parts.{IsSet, IsRoot, IsEntry, IsAction, IsWrite, IsCondition, HasFile, HasParts, scope_of}
+use Rattle.rl_form.specs.Parts.{IsSet, IsRoot, IsEntry, IsAction, IsWrite, IsCondition, HasFile, IsQuiet, IsQuietRoot, AreQuiet, HasParts, scope_of}
 use Rattle.rl_form.proofs.FormLaws.{form_of_answer}
 use Rattle.rl_form.proofs.Lists.{Each, each_more, each_mapped, each_of_flat, all, each}
 use Rattle.rl_form.proofs.TreeLaws.{sound}
+use Rattle.rl_form.proofs.QuietLaws.{number_quiet, quiet_turns}
 use Rattle.rl_formed.specs.Laws as laws
 use Rattle.rl_formed.proofs.DraftLaws as drafts
 use Rattle.rl_formed.proofs.ResultLaws.{ok_then, same_ok}
 use Rattle.rl_formed.proofs.SizeLaws as sizes
+use Rattle.rl_formed.proofs.StatementLaws as statements
 use Rattle.rl_resolve.specs.Descriptions.{Description, description, described}
 use Rattle.rl_resolve.specs.Forms.{HasEntriesIn, IsFormedInFiles, AreFormedAsWritten}
 use Rattle.rl_resolve.specs.Limits.{passed_as, passed}
 use Rattle.rl_resolve.specs.Resolving.{outcome}
 use Rattle.rl_resolve.specs.declared.answer.Runs.{Runs}
 use Rattle.rl_resolve.specs.declared.limits.Passed.{Passed}
-use Rattle.rl_resolve.proofs.LimitLaws.{accepted_within_limits, accepted_drafts, accepted_names}
+use Rattle.rl_resolve.proofs.LimitLaws.{accepted_within_limits, accepted_drafts, accepted_names, accepted_leaves}
 
 -- ---- a draft that is accepted
 
+-- at most four statements at the outer level
+abbrev IsFew : ActionDef → Type 0
+IsFew a = outer_statements a.statements ≤ 4
+
 record IsSound (count : ℕ) (draft : Draft) : Type 0 where
-  quiet : laws.IsQuiet draft
+  codes : laws.HasReadCodes draft
+  few_statements : laws.HasFewStatements draft
+  quiet_conditions : laws.HasQuietConditions draft
+  quiet_turns : laws.HasQuietTurns draft
   own_actions : laws.HasOwnActions draft
   own_entries : laws.HasOwnEntries draft
   plain : laws.HasPlainEntries draft
@@ -174,12 +185,51 @@ module _ (spec : Spec) (files : List (List ℕ)) (draft : Draft) (is : descripti
   all_sound [] a b c d f g h = tt
   all_sound (e ∷ es) a b c d f g h = (entry_sound e a.0 b.0 c.0 d.0 f.0 g.0 h.0, all_sound es a.1 b.1 c.1 d.1 f.1 g.1 h.1)
 
-  action_sound : (xs : List ActionDef) → Each (λ (a : ActionDef). IsTrue (is_action_name a.name)) xs → Each (λ (a : ActionDef). HasFile (length spec.files) a.place) xs → Each (λ (a : ActionDef). a.statements ≡ []) xs → Each (IsAction (length spec.files)) xs
+  action_sound : (xs : List ActionDef) → Each (λ (a : ActionDef). IsTrue (is_action_name a.name)) xs → Each (λ (a : ActionDef). HasFile (length spec.files) a.place) xs → Each IsFew xs → Each (IsAction (length spec.files)) xs
   action_sound [] a b c = tt
-  action_sound (x ∷ xs) a b c = (record { name = a.0; quiet = c.0; place = b.0 }, action_sound xs a.1 b.1 c.1)
+  action_sound (x ∷ xs) a b c = (record { name = a.0; few_outer = c.0; place = b.0 }, action_sound xs a.1 b.1 c.1)
 
-  quiet : Each (λ (a : ActionDef). a.statements ≡ []) spec.actions
-  quiet = subst (Each (λ (a : ActionDef). a.statements ≡ [])) (sym same_actions) (each (λ (a : ActionDef). a.statements ≡ []) draft.actions right.quiet)
+  few_statements : Each IsFew spec.actions
+  few_statements = subst (Each IsFew) (sym same_actions) (each IsFew draft.actions right.few_statements)
+
+  -- ---- what actions say
+
+  same_names : laws.entry_names draft ≡ map (λ (e : rust.Entry). e.name) spec.entries
+  same_names = sym (ap (map (λ (m : Made). m.name)) made) ∙ made_names spec.entries
+
+  codes : All (IsCodeRead spec) spec.actions
+  codes =
+      subst (λ z. All (λ (a : ActionDef). IsReadAs z a.code a.statements) spec.actions) same_names
+      (subst (λ z. All (λ (a : ActionDef). IsReadAs (laws.entry_names draft) a.code a.statements) z) (sym same_actions) right.codes)
+
+  abbrev Quiet : List ActionDef → ℕ → Type 0
+  Quiet actions n = HasNoStatement (map action_of actions) n
+
+  quiet_conditions : Each (λ (a : ActionId). Quiet spec.actions a.0) spec.conds
+  quiet_conditions =
+      subst (λ z. Each (λ (a : ActionId). Quiet z a.0) spec.conds) (sym same_actions)
+      (subst (Each (λ (a : ActionId). Quiet draft.actions a.0)) (sym kept) (each (λ (a : ActionId). Quiet draft.actions a.0) (all_conditions [] (meanings draft)) right.quiet_conditions))
+
+  abbrev HasTurns : List ActionDef → Made → Type 0
+  HasTurns actions m = All (λ (t : Node). All (Quiet actions) (turn_actions_in t)) (trees_of m.root)
+
+  quiet_entries : Each (λ (e : rust.Entry). HasTurns spec.actions (made_of e)) spec.entries
+  quiet_entries = subst (λ z. Each (λ (e : rust.Entry). HasTurns z (made_of e)) spec.entries) (sym same_actions) (of_made (HasTurns draft.actions) right.quiet_turns)
+
+  quiet_root : (x : Root) → IsPlain x → All (λ (t : Node). All (Quiet spec.actions) (turn_actions_in t)) (trees_of x) → IsQuietRoot spec.actions x
+  quiet_root (Plain t) p h = quiet_turns spec.actions t (each (Quiet spec.actions) (turn_actions_in t) (each (λ (t : Node). All (Quiet spec.actions) (turn_actions_in t)) (t ∷ []) h).0)
+  quiet_root (Scanner ps) p h = absurd p
+
+  quiet_roots : (es : List rust.Entry) → Each (λ (e : rust.Entry). IsPlain (root_of e.root)) es → Each (λ (e : rust.Entry). HasTurns spec.actions (made_of e)) es → Each (λ (e : rust.Entry). IsQuietRoot spec.actions (root_of e.root)) es
+  quiet_roots [] a b = tt
+  quiet_roots (e ∷ es) a b = (quiet_root (root_of e.root) a.0 b.0, quiet_roots es a.1 b.1)
+
+  quiet : AreQuiet spec
+  quiet = record {
+    conditions = all (λ (a : ActionId). IsQuiet spec.actions a.0) spec.conds
+        (each_more (λ (a : ActionId). Quiet spec.actions a.0) (λ (a : ActionId). IsQuiet spec.actions a.0) spec.conds (λ a h. number_quiet spec.actions a.0 h) quiet_conditions);
+    turns = all (λ (e : rust.Entry). IsQuietRoot spec.actions (root_of e.root)) spec.entries (quiet_roots spec.entries plain quiet_entries);
+  }
 
   few_entries : length spec.entries ≤ 65535
   few_entries =
@@ -207,10 +257,12 @@ module _ (spec : Spec) (files : List (List ℕ)) (draft : Draft) (is : descripti
       machine = subst (λ z. IsTrue (is_name z)) (sym (ap (λ (d : Description). d.machine) is)) right.machine;
       entries = all (IsEntry scope) spec.entries
           (all_sound spec.entries named (each (λ (e : rust.Entry). All (HasFile (length spec.files)) e.places) spec.entries in_files) sets knows sized plain embeds);
-      actions = all (IsAction (length spec.files)) spec.actions (action_sound spec.actions called placed_actions quiet);
+      actions = all (IsAction (length spec.files)) spec.actions (action_sound spec.actions called placed_actions few_statements);
       conditions = own_conditions;
       writes = placed_writes;
     };
+    quiet = quiet;
+    codes = codes;
     apart = record {
       entries = own_entries;
       actions = subst (λ (z : List ActionDef). AreDifferent (map (λ (a : ActionDef). a.name) z)) (sym same_actions) right.own_actions;
@@ -234,9 +286,12 @@ no_limit : (ds : List Draft) → passed ds ≡ [] → Each (λ (d : Draft). firs
 no_limit [] h = tt
 no_limit (d ∷ ds) h = let k = none_as d.machine (first_limit [] (meanings d)) (passed ds) h in (k.0, no_limit ds k.1)
 
-draft_sound : (count : ℕ) (steps : List Step) (machine : List ℕ) (draft : Draft) → laws.AreWritten steps → laws.StandIn count steps → IsTrue (is_name machine) → names_fault steps ≡ None → draft_of steps machine ≡ Ok draft → first_limit [] (meanings draft) ≡ None → IsSound count draft
-draft_sound count steps machine draft w f named none h within = record {
-  quiet = drafts.are_quiet steps machine draft h;
+draft_sound : (count : ℕ) (steps : List Step) (machine : List ℕ) (draft : Draft) → laws.AreWritten steps → laws.StandIn count steps → IsTrue (is_name machine) → names_fault steps ≡ None → leaves_fault steps ≡ None → draft_of steps machine ≡ Ok draft → first_limit [] (meanings draft) ≡ None → IsSound count draft
+draft_sound count steps machine draft w f named none leaves h within = record {
+  codes = statements.have_read_codes steps machine draft w none leaves h;
+  few_statements = statements.have_few_statements steps machine draft none h;
+  quiet_conditions = statements.have_quiet_conditions steps machine draft none h;
+  quiet_turns = statements.have_quiet_turns steps machine draft none h;
   own_actions = drafts.have_own_actions steps machine draft h;
   own_entries = drafts.have_own_entries steps machine draft h;
   plain = drafts.have_plain_entries steps machine draft h;
@@ -268,9 +323,10 @@ each_read_of P Q read holds (x ∷ xs) ys h e =
 all_sound_drafts : (which : Runs) (u : Unrolled) (ds : List Draft) → laws.AreWritten u.steps → laws.StandIn (length u.files) u.steps → outcome which u ≡ Ok ds → Each (IsSound (length u.files)) ds
 all_sound_drafts which u ds w f h =
     let none = accepted_names which u ds h in
+    let leaves = accepted_leaves which u ds h in
     let machines = each (λ (m : List ℕ). IsTrue (is_name m)) (machines_of u.steps) (drafts.have_named_machines u.steps w) in
     sound_where (length u.files) ds (each_read_of (λ (m : List ℕ). IsTrue (is_name m)) (λ (d : Draft). first_limit [] (meanings d) ≡ None → IsSound (length u.files) d) (draft_of u.steps)
-    (λ machine d named e within. draft_sound (length u.files) u.steps machine d w f named none e within) (machines_of u.steps) ds machines (accepted_drafts which u ds h))
+    (λ machine d named e within. draft_sound (length u.files) u.steps machine d w f named none leaves e within) (machines_of u.steps) ds machines (accepted_drafts which u ds h))
     (no_limit ds (accepted_within_limits which u ds h))
 
 heads : {X : Type 0} (x y : X) (xs ys : List X) → x ∷ xs ≡ y ∷ ys → (x ≡ y) × (xs ≡ ys)

@@ -6,3 +6,4 @@ pub mod ResolveLaws
 pub mod LimitLaws
 pub mod InstanceLaws
 pub mod FormLaws
+pub mod RunningLaws

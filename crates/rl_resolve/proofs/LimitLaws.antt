@@ -274,3 +274,10 @@ pub accepted_names : (which : Runs) (u : Unrolled) (drafts : List Draft) → out
 accepted_names which u drafts h =
     let i = ok_next (drafted which u) (within u) drafts h in
     no_fault u.files (names_fault u.steps) (ok_none (refusals.told u.files (names_fault u.steps)) _ i.0 i.1)
+
+-- and no fault of keys or of entries
+pub accepted_leaves : (which : Runs) (u : Unrolled) (drafts : List Draft) → outcome which u ≡ Ok drafts → leaves_fault u.steps ≡ None
+accepted_leaves which u drafts h =
+    let i = ok_next (drafted which u) (within u) drafts h in
+    let a = ok_read (refusals.stopped u.stop) _ i.0 (ok_read (refusals.told u.files (names_fault u.steps)) _ i.0 i.1) in
+    no_fault u.files (leaves_fault u.steps) (ok_none (refusals.told u.files (leaves_fault u.steps)) _ i.0 (ok_read (refusals.told u.files (machine_fault which (machines_of u.steps))) _ i.0 a))

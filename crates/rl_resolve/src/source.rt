@@ -8,7 +8,7 @@ ghost use Rattle.rl_resolve.specs.Resolving as resolving;
 use crate::answer::{ResolveFault, Runs};
 use crate::drafted::drafted;
 use crate::limits::check_limits;
-use crate::looks::check_specs;
+use crate::looks::check_forms;
 use crate::machines::{Machines, machines_of};
 use rl_draft::Draft;
 use rl_grammar::syntax::Syntax;
@@ -42,14 +42,15 @@ fn settled(alloc: Global, unrolled: &Unrolled, which: Runs<'_>) -> Result<List<S
     within(alloc, unrolled, drafts)
 }
 
-/// The same, looked at again.
+/// The same, with their form looked at again. The machine that runs is among them.
+#[tactic(auto, using(crate::proofs::RunningLaws::accepted_running))]
 fn answered(alloc: Global, unrolled: &Unrolled, which: Runs<'_>) -> Result<List<Spec>, ResolveFault>
     ensures settles { Settles which.entry unrolled.now result }
     ensures formed { IfOk result (All IsFormed) }
     ensures running { IfOk result (HasRunning which.entry) }
 {
     let specs = settled(alloc, unrolled, which)?;
-    check_specs(alloc, specs.as_slice(), which)?;
+    check_forms(alloc, specs.as_slice())?;
     Ok(specs)
 }
 
@@ -61,14 +62,19 @@ fn answered(alloc: Global, unrolled: &Unrolled, which: Runs<'_>) -> Result<List<
 /// A refusal is the first one in this order, which is this profile's; within one step the first in text order comes:
 ///
 /// - names: F5 where an expression or an action is not defined earlier, F6 where a name is defined twice or `write data`
-///   stands twice for a machine, L9 at the first name of a machine behind 65,535 others;
+///   stands twice for a machine, L9 at the first name of a machine behind 65,535 others; in the code of actions F13 at a
+///   word that this profile leaves out or that has not its form, and L10 at an action's fifth control statement at the
+///   outer level; F13 at a condition, to-state or from-state embedding of an action with control statements;
 /// - what ends the reading of includes: F4 where a statement stands before any `machine`, or an `include` names a machine
 ///   that is absent; F17; L2; `Missing`; `StoreFailed`; and what an included file itself has, as its syntax;
 /// - F4 at 1:1 where the source has no machine, or not the one that is to run;
-/// - F8 and F9 at keys and ranges;
+/// - F8 and F9 at keys and ranges, and F16 at a word of code that names no entry of the machine;
 /// - F18 at the first `write` of a machine without an instantiation; else at 1:1 where the machine that runs has none;
 /// - F20 at the first construct that is not built yet;
 /// - L4, L5 and L7 at the name of an entry.
+///
+/// The statements of an action are what its code says, in text order; an entry that a statement names is given by its
+/// number among the machine's entries, from 1.
 ///
 /// The store holds what it held. Its count of faults rises only where it failed, and `StoreFailed` comes only then.
 /// `Memory` may come at any time.

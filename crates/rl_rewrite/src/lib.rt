@@ -14,6 +14,3 @@ mod sizes;
 mod walk;
 
 pub use entries::{RewriteFault, Rewritten, rewrite};
-
-#[cfg(test)]
-mod tests;

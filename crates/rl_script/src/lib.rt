@@ -13,6 +13,3 @@ mod reading;
 
 pub use admission::admit;
 pub use reading::read_script;
-
-#[cfg(test)]
-mod tests;

@@ -1,8 +1,5 @@
-use Rattle.rl_formed.proofs.DraftLaws.{are_quiet, have_own_actions, have_own_entries, have_plain_entries, have_few_actions, have_few_entries, embed_own_actions, have_own_conditions, have_small_sets}
+use Rattle.rl_formed.proofs.DraftLaws.{have_own_actions, have_own_entries, have_plain_entries, have_few_actions, have_few_entries, embed_own_actions, have_own_conditions, have_small_sets}
 use Rattle.rl_formed.proofs.laws.specs_are_formed.Goals as goal
-
-pub returns-clause-quiet : goal.returns-clause-quiet
-returns-clause-quiet c = are_quiet
 
 pub returns-clause-actions : goal.returns-clause-actions
 returns-clause-actions c = have_own_actions

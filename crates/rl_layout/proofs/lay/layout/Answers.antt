@@ -12,4 +12,4 @@ unreachable-requires c =
     not_both c.in_ok-arrays.arrays c.in-Err.field-0 (subst Valid (sym c.in_ok-arrays.ensures) valid) c.in-Err.ensures
 
 pub returns-clause-shows : goal.returns-clause-shows
-returns-clause-shows c = shown_by c.args.spec.now c.args.min.now c.in-Ok.tables (c.in-Ok.ensures.0 ∙ c.in_ok-arrays.ensures) c.states.ensures.minimal c.requires.well_formed c.requires.goals
+returns-clause-shows c = shown_by c.args.spec.now c.args.min.now c.in-Ok.tables (c.in-Ok.ensures.0 ∙ c.in_ok-arrays.ensures) c.states.ensures.minimal c.requires.well_formed

@@ -1,4 +1,4 @@
-use Rattle.std.proofs.Common.{◌≡◌, ℕ, ◌<◌, ◌++◌, pos, length, map, ap, rules}
+use Rattle.std.proofs.Common.{ℕ, ◌<◌, ◌++◌, pos, length, map, ap, rules}
 use Rattle.std.specs.List.{flat_map}
 use denote.Ref.{Bor}
 use Rattle.rl_arrays.specs.Shared as arrays

@@ -17,5 +17,5 @@ pub returns-clause-conditions : goal.returns-clause-conditions
 returns-clause-conditions c = built_conditions c.args.spec.now c.in_ok-machine.machine c.in_ok-tables.tables c.in_ok-tables.ensures.arrays
 
 pub returns-clause-actions : goal.returns-clause-actions
-returns-clause-actions c = built_used c.args.spec.now c.args.root.now c.in_ok-machine.machine c.in_ok-tables.tables c.requires.well_formed c.requires.goals c.requires.built
+returns-clause-actions c = built_used c.args.spec.now c.args.root.now c.in_ok-machine.machine c.in_ok-tables.tables c.requires.well_formed c.requires.built
     c.in_ok-machine.ensures.machine c.in_ok-machine.ensures.sound c.in_ok-tables.ensures.arrays

@@ -1,8 +1,7 @@
 use Rattle.std.proofs.Common.{sym, subst}
 use Rattle.rl_model.specs.WellFormed.{IsWellFormed}
 use Rattle.rl_build.specs.Entries.{AllPlain}
-use Rattle.rl_layout.specs.Goals.{HaveOwnGoals}
-use Rattle.rl_make.proofs.OneCharacterLaws.{well_formed, plain, goals}
+use Rattle.rl_make.proofs.OneCharacterLaws.{well_formed, plain}
 use Rattle.rl_make.proofs.tests.one_character_has_tables.Goals as goal
 
 pub tables_of-requires-clause-well_formed : goal.tables_of-requires-clause-well_formed
@@ -10,6 +9,3 @@ tables_of-requires-clause-well_formed g c = subst IsWellFormed (sym c.in_ok-spec
 
 pub tables_of-requires-clause-plain : goal.tables_of-requires-clause-plain
 tables_of-requires-clause-plain g c = subst AllPlain (sym c.in_ok-spec.ensures) plain
-
-pub tables_of-requires-clause-goals : goal.tables_of-requires-clause-goals
-tables_of-requires-clause-goals g c = subst HaveOwnGoals (sym c.in_ok-spec.ensures) goals

@@ -1,0 +1,7 @@
+pub mod Entries
+pub mod Lengths
+pub mod Modes
+pub mod Outer
+pub mod Rows
+pub mod Said
+pub mod Statements

@@ -1,0 +1,25 @@
+//! The reading of action code: its control statements, its values, and the words that stand where they may not.
+#![tactic(auto)]
+
+mod block;
+mod bytes;
+mod control;
+mod faults;
+mod goal;
+mod laws;
+mod memory;
+mod mode;
+mod number;
+mod reading;
+mod rows;
+mod said;
+mod text;
+mod walk;
+mod word;
+
+pub use block::is_block;
+pub use faults::{fifth_outer, first_misplaced};
+pub use laws::statements_have_their_form;
+pub use reading::{is_read_as, statement_of};
+pub use rows::codes_say;
+pub use walk::read_code;
