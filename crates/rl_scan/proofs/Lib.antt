@@ -1,0 +1,8 @@
+pub mod Asks
+pub mod RangeLaws
+pub mod SideLaws
+pub mod CauseLaws
+pub mod WalkLaws
+pub mod FaultLaws
+pub mod ScannedLaws
+pub mod ClosedLaws
