@@ -1,0 +1,5 @@
+pub mod OrderLaws
+pub mod EdgeLaws
+pub mod WalkLaws
+pub mod CoverLaws
+pub mod ReducedLaws

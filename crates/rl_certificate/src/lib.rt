@@ -1,0 +1,17 @@
+//! Certificates that a machine has no state too many: a word that leads to each state, and for each two states a word
+//! after which they show different things.
+#![tactic(auto)]
+
+mod certificate;
+mod cover;
+mod order;
+mod right;
+mod views;
+mod walk;
+
+pub use certificate::{Access, Apart, Certificate};
+pub use right::check;
+pub use rl_types::Letter;
+
+#[cfg(test)]
+mod tests;
