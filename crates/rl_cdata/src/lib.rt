@@ -1,0 +1,13 @@
+//! The text of a data section: the lines of C that hold the arrays of tables.
+#![tactic(auto)]
+
+mod arrays;
+mod elements;
+mod fits;
+mod head;
+mod section;
+#[cfg(test)]
+mod tests;
+mod words;
+
+pub use section::data_text;

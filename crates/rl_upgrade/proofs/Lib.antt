@@ -1,0 +1,12 @@
+pub mod ListLaws
+pub mod ShareCode
+pub mod Segments
+pub mod ShareLaws
+pub mod OldLaws
+pub mod NewLaws
+pub mod TwinLaws
+pub mod EntryLaws
+pub mod StayLaws
+pub mod ValidLaws
+pub mod CopyLaws
+pub mod Rows
