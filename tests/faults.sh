@@ -3,15 +3,14 @@
 #
 #   tests/faults.sh [GROUP ..]
 #
-# Of each group (02-source-faults, 03-names) it takes the cases that are to end with one of the faults F1 to F11, F15, F17 to
-# F19 or of the limits L1 to L6, L8, L9, runs the program on each, and wants exactly the case's line on the error output, its
-# status and its output. A case that has to be refused with F20 before its fault, since a construct that is not built stands in
-# it, is counted aside. It says how many have their lines, and which of these faults and limits no case had; it names the cases
+# Of each group (02-source-faults, 03-names) it takes the cases that are to end with one of the faults F1 to F11, F13, F15 to
+# F19 or of the limits L1 to L10, runs the program on each, and wants exactly the case's line on the error output, its
+# status and its output. A case that is refused with F20 for a scanner in it is counted aside. It says how many have their lines, and which of these faults and limits no case had; it names the cases
 # that have not. The status is 1 where one has not, and 0 where all have or nothing could be run.
 . "$(dirname "${BASH_SOURCE[0]}")/common.sh"
 set_up
 find_cases
-told='F1 F2 F3 F4 F5 F6 F7 F8 F9 F10 F11 F15 F17 F18 F19 L1 L2 L3 L4 L5 L6 L8 L9'
+told='F1 F2 F3 F4 F5 F6 F7 F8 F9 F10 F11 F13 F15 F16 F17 F18 F19 L1 L2 L3 L4 L5 L6 L7 L8 L9 L10'
 
 # The number of the fault or limit that a line of the error output tells, `FILE:LINE:COL: NUMBER WORDS`.
 number_of() {
@@ -21,11 +20,6 @@ number_of() {
 
 # Whether the fault or limit with this number is told today.
 is_told() { [[ " $told " = *" $1 "* ]]; }
-
-# Whether it comes behind F20 in the order of refusals.
-is_behind_unbuilt() {
-  case $1 in F15 | L4 | L5 | L6 | L8) return 0 ;; *) return 1 ;; esac
-}
 
 [ $# -gt 0 ] || set -- 02-source-faults 03-names
 wrong=0 seen=' '
@@ -42,7 +36,7 @@ for group; do
     run_case "$folder"
     first_line "$work/err"
     got=$line
-    if is_behind_unbuilt "$number" && [[ $got = *': F20 not yet' ]]; then
+    if [[ $got = *': F20 not yet' ]] && grep -qF '|*' "$folder"/*.rl; then
       unbuilt=$((unbuilt + 1))
       continue
     fi
