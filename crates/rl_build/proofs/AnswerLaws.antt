@@ -332,7 +332,7 @@ fit_two m n x y a b = omega arith
 fit_one : (m x : ℕ) → x ≤ 256 * m → x ≤ 256 * (m + 1)
 fit_one m x a = omega arith
 
-ranges_fit : (t : Node) → All (λ (ranges : List Range). length ranges ≤ 256) (sets_in t) → ranges_in t ≤ 256 * size_of t
+pub ranges_fit : (t : Node) → All (λ (ranges : List Range). length ranges ≤ 256) (sets_in t) → ranges_in t ≤ 256 * size_of t
 ranges_fit (N.Set ranges) h = let a : length ranges ≤ 256 = All-In Few (ranges ∷ []) ranges h (inl refl) in omega arith
 ranges_fit N.Null h = omega arith
 ranges_fit N.Nothing h = omega arith
@@ -351,7 +351,7 @@ ranges_fit (N.When a c) h = fit_one (size_of a) (ranges_in a) (ranges_fit a h)
 none_two : (m n : ℕ) → m ≡ 0 → n ≡ 0 → m + n ≡ 0
 none_two m n a b = omega arith
 
-conditions_fit : (t : Node) → All (IsNumber 8) (conditions_in t) → wrong_numbers t ≡ 0
+pub conditions_fit : (t : Node) → All (IsNumber 8) (conditions_in t) → wrong_numbers t ≡ 0
 conditions_fit (N.Set ranges) h = refl
 conditions_fit N.Null h = refl
 conditions_fit N.Nothing h = refl

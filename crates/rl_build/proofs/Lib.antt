@@ -4,5 +4,7 @@ pub mod SiteLaws
 pub mod NodeLaws
 pub mod AnswerLaws
 pub mod ChainLaws
+pub mod ScannerLaws
 pub mod EntryLaws
+pub mod PatternLaws
 pub mod TwinLaws

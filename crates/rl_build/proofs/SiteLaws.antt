@@ -121,7 +121,7 @@ honest_below (N.When a c) k h = h
 
 -- ---- how many nodes there are
 
-count_one : (xs : List Site) (z : Site) (n : ℕ) → length xs ≡ n → length (xs ++ z ∷ []) ≡ n + 1
+pub count_one : (xs : List Site) (z : Site) (n : ℕ) → length xs ≡ n → length (xs ++ z ∷ []) ≡ n + 1
 count_one xs z n e = let l : length (xs ++ z ∷ []) ≡ length xs + length (z ∷ []) = length-append xs (z ∷ []) in omega arith
 
 count_two : (xs ys : List Site) (z : Site) (m n : ℕ) → length xs ≡ m → length ys ≡ n → length (xs ++ ys ++ z ∷ []) ≡ m + n + 1

@@ -5,3 +5,4 @@ pub mod Trees
 pub mod Chains
 pub mod Roots
 pub mod Entries
+pub mod Patterns

@@ -238,7 +238,7 @@ fn in_order(
 }
 
 // The operands and one more.
-fn pushed(mut operands: Vec<Built>, last: Built) -> Result<Vec<Built>, Refused>
+pub fn pushed(mut operands: Vec<Built>, last: Built) -> Result<Vec<Built>, Refused>
     ensures { MatchResult result (λ v. v.items ≡ operands.items ++ last ∷ []) (λ r. (r.fault ≡ BuildFault.Memory) × (r.node ≡ 0)) }
 {
     match push(&mut operands, last) {

@@ -1,46 +1,87 @@
 // The machines of a specification's entries.
-ghost use Rattle.std.specs.Prelude.{◌≡◌, ◌+◌, ◌<◌, ◌≤◌, ◌++◌, ◌∷◌, [], length, Some, slice_get, IfOk, IfErr, OnOk, MatchResult, All};
+ghost use Rattle.std.specs.Prelude.{◌≡◌, ◌+◌, ◌<◌, ◌≤◌, ◌++◌, ◌∷◌, [], length, Some, IfOk, IfErr, IfSome, OnOk, MatchResult, All};
+ghost use Rattle.rl_automata.specs.Nodes.{node_of};
+ghost use Rattle.rl_automata.specs.Scans.{Plain};
 ghost use Rattle.rl_fsm.specs.Roots.{states_in, states_of};
 ghost use Rattle.rl_fsm.specs.declared.root.EntryFsm.{EntryFsm};
-ghost use Rattle.rl_model.specs.RefusedNode.{IsBuildable};
+ghost use Rattle.rl_model.specs.RefusedNode.{IsBuildable, cause_place, pattern_place};
 ghost use Rattle.rl_model.specs.Specification.{root_of, roots_of, specification_of};
 ghost use Rattle.rl_model.specs.Trees.{TestsOf, AreTestsHonest, HasHonestTests};
 ghost use Rattle.rl_model.specs.WellFormed.{IsWellFormed};
-ghost use Rattle.rl_build.specs.Entries.{AllPlain, AreMachinesOf, TellsRefusal, IsReadyEntry, IsEntryBuilt, IsEntryRefused, AreEntriesBuilt};
+ghost use Rattle.rl_build.specs.Entries.{AreMachinesOf, TellsRefusal, IsFitRoot, IsReadyEntry, IsEntryBuilt, IsRootRefused, patterns_in, NamesPattern, IsEntryRefused, AreEntriesBuilt};
 ghost use Rattle.rl_build.specs.Roots.{IsTwinOf};
+ghost use Rattle.rl_build.specs.Trees.{cause_of, IsFit};
 
 use crate::built::Refused;
 use crate::fault::BuildRefusal;
+use crate::patterns::scanned;
 use crate::walk::expression;
+use rl_automata::Tree;
 use rl_fsm::{EntryFsm, RootFsm};
 use rl_model::{Entry, Root, Spec};
 use rl_ops::BuildFault;
 use rl_types::{Alphabet, Place};
 use std::alloc::Global;
 
-// The refusal of the node of this number.
-fn refusal(places: &[Place], refused: Refused) -> BuildRefusal
-    requires { refused.node < length places.now }
+// The place of the pattern of this number.
+fn place_of_pattern(root: &Root, pattern: u32) -> Place
+    requires { pattern < length (patterns_in (root_of root.now)) }
+    ensures { pattern_place root.now pattern ≡ Some result }
+{
+    let Root::Scanner(patterns) = root else {
+        unreachable!()
+    };
+    patterns.as_slice()[pattern as usize].place
+}
+
+// The place of a refused node: that of its first token, or of the pattern that matches the empty word.
+fn place_of(entry: &Entry, refused: Refused) -> Place
+    requires node { refused.node < length entry.now.places }
+    requires pattern { NamesPattern (root_of entry.now.root) refused.fault }
+    ensures { IfSome (cause_of refused.fault) (λ cause. cause_place entry.now refused.node cause ≡ Some result) }
+{
+    let node = entry.places.as_slice()[refused.node as usize];
+    match refused.fault {
+        BuildFault::L6 => node,
+        BuildFault::L8 => node,
+        BuildFault::F12(pattern) => place_of_pattern(&entry.root, pattern),
+        BuildFault::F15 => node,
+        BuildFault::Memory => node,
+    }
+}
+
+// The refusal of an entry's node.
+fn refusal(entry: &Entry, refused: Refused) -> BuildRefusal
+    requires node { refused.node < length entry.now.places }
+    requires pattern { NamesPattern (root_of entry.now.root) refused.fault }
     ensures fault { result.fault ≡ refused.fault }
-    ensures place { slice_get places.now refused.node ≡ Some result.place }
+    ensures place { IfSome (cause_of refused.fault) (λ cause. cause_place entry.now refused.node cause ≡ Some result.place) }
 {
     BuildRefusal {
         fault: refused.fault,
-        place: places[refused.node as usize],
+        place: place_of(entry, refused),
+    }
+}
+
+// The machine of an expression, or the first of its nodes that is refused.
+fn plain(alloc: Global, alphabet: Alphabet, tree: &Tree) -> Result<EntryFsm, Refused>
+    requires { IsFit (node_of tree.now) }
+    ensures { MatchResult result (IsEntryBuilt alphabet (Plain (node_of tree.now))) (IsRootRefused alphabet (Plain (node_of tree.now))) }
+{
+    match expression(alloc, alphabet, tree) {
+        Ok(built) => Ok(EntryFsm::Plain(built.machine)),
+        Err(refused) => Err(refused),
     }
 }
 
 // The machine of an entry, or the first of its nodes that is refused.
-fn machine_of(alloc: Global, alphabet: Alphabet, entry: &Entry) -> Result<EntryFsm, BuildRefusal>
-    requires { IsReadyEntry entry.now }
-    ensures { MatchResult result (IsEntryBuilt alphabet (root_of entry.now.root)) (IsEntryRefused alphabet entry.now) }
+fn machine_of(alloc: Global, alphabet: Alphabet, root: &Root) -> Result<EntryFsm, Refused>
+    requires { IsFitRoot (root_of root.now) }
+    ensures { MatchResult result (IsEntryBuilt alphabet (root_of root.now)) (IsRootRefused alphabet (root_of root.now)) }
 {
-    let Root::Plain(tree) = &entry.root else {
-        unreachable!()
-    };
-    match expression(alloc, alphabet, tree) {
-        Ok(built) => Ok(EntryFsm::Plain(built.machine)),
-        Err(refused) => Err(refusal(entry.places.as_slice(), refused)),
+    match root {
+        Root::Plain(tree) => plain(alloc, alphabet, tree),
+        Root::Scanner(patterns) => scanned(alloc, alphabet, patterns.as_slice()),
     }
 }
 
@@ -70,9 +111,9 @@ fn add_entry(
     requires room { states_in root.old + 32767 ≤ 2147483646 }
     ensures { MatchResult result (λ _. (m : EntryFsm) × IsEntryBuilt alphabet (root_of entry.now.root) m × (root.new ≡ root.old ++ m ∷ [])) (IsEntryRefused alphabet entry.now) }
 {
-    match machine_of(alloc, alphabet, entry) {
+    match machine_of(alloc, alphabet, &entry.root) {
         Ok(machine) => put_behind(root, machine, entry.places.as_slice()),
-        Err(refused) => Err(refused),
+        Err(refused) => Err(refusal(entry, refused)),
     }
 }
 
@@ -89,20 +130,22 @@ fn machines(alloc: Global, spec: &Spec) -> Result<RootFsm, BuildRefusal>
     Ok(root)
 }
 
-/// The machines of all entries of a well-formed Spec, in text order, each built of its expression: operands first, the
-/// left one before the right one. The machines stand for the expressions, and together they are a twin of the tree
-/// machine, so that they make the same runs. Entries that are scanners (the guide's section 6.3) are not built yet: the
-/// Spec may have none.
+/// The machines of all entries of a well-formed Spec, in text order. That of an expression is built operands first, the
+/// left one before the right one. That of a scanner (the guide's section 6.3) is built of the machines of its patterns,
+/// which go on side by side: a state in which some pattern is final is a match, and has the token list of the first such
+/// pattern. The machines stand for the expressions and the scanners, and together they are a twin of the tree machine, so
+/// that they make the same runs.
 ///
-/// An `Err` tells the first node that is refused, with the entries in text order and the nodes of each in post-order, and
-/// the place of its first token: `L6` exactly where more than 32,767 configurations of it are reached, else `L8` exactly
-/// where these are more than 4,194,304 in number times the key classes of the node's sets times 2 to the number of its
-/// conditions, and else `F15` exactly where at one of them and some letter the candidates for the step are a cycle of
-/// priorities (this profile). For an intersection and a difference these are counted before steps are left out. `F12` does
-/// not come. `Memory` is want of memory, at some place.
+/// An `Err` tells the first node that is refused, with the entries in text order and the nodes of each in post-order: a
+/// scanner has the nodes of its patterns in order, and then itself. Its place is that of its first token. It is `L6`
+/// exactly where more than 32,767 configurations of the node are reached, else `L8` exactly where these are more than
+/// 4,194,304 in number times the key classes of the node's sets times 2 to the number of its conditions, else `F15`
+/// exactly where at one of them and some letter the candidates for the step are a cycle of priorities, and else `F12(i)`
+/// exactly where the node is a scanner and the pattern of number i, from 0, is the first one that matches the empty word
+/// (this profile); its place is then that of this pattern. For an intersection and a difference configurations are counted
+/// before steps are left out. `Memory` is want of memory, at some place.
 pub fn build(alloc: Global, spec: &Spec) -> Result<RootFsm, BuildRefusal>
-    requires well_formed { IsWellFormed spec.now }
-    requires plain { AllPlain spec.now }
+    requires { IsWellFormed spec.now }
     ensures follows { IfOk result (AreMachinesOf (roots_of (specification_of spec.now))) }
     ensures tests { OnOk result (HasHonestTests (specification_of spec.now)) }
     ensures twin { IfOk result (λ root. (tests : TestsOf (specification_of spec.now)) → AreTestsHonest (specification_of spec.now) tests → IsTwinOf (specification_of spec.now) tests root) }

@@ -6,8 +6,9 @@ use rl_types::Place;
 /// the nodes of each in post-order.
 #[derive(Clone, Copy, Debug, PartialEq, Eq)]
 pub struct BuildRefusal {
-    /// Why the node is refused. At one node `L6` comes before `L8`, and `L8` before `F15`.
+    /// Why the node is refused. At one node `L6` comes before `L8`, `L8` before `F15`, and `F15` before `F12`, which
+    /// only scanners have.
     pub fault: BuildFault,
-    /// The place of the node's first token.
+    /// The place of the node's first token; with `F12` that of the pattern.
     pub place: Place,
 }

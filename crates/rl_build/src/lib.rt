@@ -1,4 +1,4 @@
-//! The machines of a specification's entries, built from their expressions.
+//! The machines of a specification's entries, built from their expressions and scanners.
 #![tactic(auto)]
 
 mod built;
@@ -10,8 +10,7 @@ mod fault;
 mod leaves;
 mod node;
 mod pairing;
-#[cfg(test)]
-mod tests;
+mod patterns;
 mod walk;
 
 pub use entries::build;

@@ -12,6 +12,3 @@ mod walk;
 pub use certificate::{Access, Apart, Certificate};
 pub use right::check;
 pub use rl_types::Letter;
-
-#[cfg(test)]
-mod tests;

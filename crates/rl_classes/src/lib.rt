@@ -9,6 +9,3 @@ mod sets;
 mod steps;
 
 pub use segments::Segments;
-
-#[cfg(test)]
-mod tests;

@@ -9,8 +9,6 @@ mod how;
 mod lists;
 mod machine;
 mod mark;
-#[cfg(test)]
-mod tests;
 
 pub use conditions::guard;
 pub use embed::{embed_actions, embed_priors};

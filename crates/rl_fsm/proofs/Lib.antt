@@ -4,3 +4,4 @@ pub mod Ascending
 pub mod PieceLaws
 pub mod Walks
 pub mod MadeLaws
+pub mod ScannedLaws

@@ -1,5 +1,5 @@
 -- The automaton of a machine.
-use Rattle.std.specs.Prelude.{ℕ, false, List, [], map, Option, None, slice_get}
+use Rattle.std.specs.Prelude.{ℕ, Bool, false, List, [], map, Option, None, slice_get}
 use Rattle.std.specs.Option.{option_map}
 use Rattle.std.specs.Ordering.{nat_cmp}
 use Rattle.std.specs.List.{find}
@@ -11,7 +11,7 @@ use Rattle.rl_labels.specs.Carries.{no_carry}
 use Rattle.rl_automata.specs.declared.moves.Move.{Move}
 use Rattle.rl_automata.specs.declared.tree.Kind.{Kind}
 use Rattle.rl_automata.specs.declared.tree.Kind.TheVariants.{To, From, Eof, Error}
-use Rattle.rl_automata.specs.Auto.{Auto, on_part}
+use Rattle.rl_automata.specs.Auto.{Auto, on_part, is_none_left}
 use Rattle.rl_fsm.specs.declared.edge.Edge.{Edge}
 use Rattle.rl_fsm.specs.declared.state.Out.{Out}
 use Rattle.rl_fsm.specs.declared.state.Marks.{Marks}
@@ -46,6 +46,10 @@ marks_of Error m = m.error
 
 abbrev pub edges_at : Graph → ℕ → List Edge
 edges_at m i = on_part [] (λ (s : State). s.edges) (state_at m i)
+
+-- the state of this number has no edge
+abbrev pub has_no_edge : Graph → ℕ → Bool
+has_no_edge m i = is_none_left (edges_at m i)
 
 abbrev pub ranges_of : List Edge → List Range
 ranges_of es = map (λ (e : Edge). e.range) es

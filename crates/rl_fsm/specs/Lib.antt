@@ -3,6 +3,7 @@ pub mod Graphs
 pub mod Sound
 pub mod Pieces
 pub mod Builds
+pub mod Scanned
 pub mod Roots
 pub mod Laws
 pub mod Made

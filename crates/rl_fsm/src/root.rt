@@ -1,5 +1,6 @@
 // The machines of all entries.
 use crate::fsm::Fsm;
+use crate::scan_fsm::ScanFsm;
 use rl_types::{EntryId, Memory};
 use std::alloc::Global;
 use std::marker::Model;
@@ -9,19 +10,37 @@ use std::marker::Model;
 pub enum EntryFsm {
     /// The machine of an expression.
     Plain(Fsm),
+    /// The machine of a scanner.
+    Scanner(ScanFsm),
 }
 
 impl EntryFsm {
     ghost use Rattle.std.specs.Prelude.{◌≡◌};
-    ghost use Rattle.rl_fsm.specs.Roots.{states_of};
+    ghost use Rattle.rl_fsm.specs.Roots.{graph_of, states_of};
+    ghost use Rattle.rl_fsm.specs.Sound.{IsSound};
+
+    /// The machine, also that of a scanner.
+    pub fn machine(&self) -> &Fsm
+        ensures machine { result.now ≡ graph_of self.now }
+        ensures sound { IsSound (graph_of self.now) }
+    {
+        match self {
+            EntryFsm::Plain(machine) => {
+                let _ = machine.states();
+                machine
+            }
+            EntryFsm::Scanner(scanner) => {
+                let _ = scanner.machine().states();
+                scanner.machine()
+            }
+        }
+    }
 
     // How many states it has.
     fn states(&self) -> u32
         ensures { result ≡ states_of self.now }
     {
-        match self {
-            EntryFsm::Plain(machine) => machine.states(),
-        }
+        self.machine().states()
     }
 }
 

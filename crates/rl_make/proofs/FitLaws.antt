@@ -29,7 +29,7 @@ use Rattle.rl_minimal.specs.Minimal.{Minimal, numbers, at_state, reads_of}
 use Rattle.rl_minimal.specs.Machine.{edge_for, go_of, edges_at, min_machine}
 use Rattle.rl_minimal.specs.Sound.{AreReads, IsEdge, IsState, IsMinimal}
 use Rattle.rl_min.specs.Canonical.{IsMachineOf}
-use Rattle.rl_min.specs.Roots as min
+use Rattle.rl_root.specs.Roots as machines
 use Rattle.rl_build.specs.Entries.{AreMachinesOf}
 use Rattle.rl_build.specs.Roots as built
 use Rattle.rl_layout.specs.Fits.{AreActions, AreQuiet, EdgeFits, StateFits, Fits}
@@ -90,17 +90,17 @@ module _ (spec : Spec) (well : IsWellFormed spec) (entries : List EntryFsm) (m :
   abbrev tree : Machine (TreeState plain)
   tree = tree_machine plain tests
 
-  abbrev root : Machine min.RootState
-  root = min.root_machine entries (context_of plain)
+  abbrev root : Machine machines.RootState
+  root = machines.root_machine entries (context_of plain)
 
   abbrev small : Machine ℕ
   small = min_machine m (context_of plain)
 
-  abbrev pub Named : TreeState plain → min.RootState → Type 0
-  Named = StandsAt (ConfAt plain) (λ e. ℕ) (built.part_at entries) twin.0
+  abbrev pub Named : TreeState plain → machines.RootState → Type 0
+  Named = StandsAt (ConfAt plain) (λ e. ℕ) (machines.part_at entries) twin.0
 
-  abbrev pub Counted : min.RootState → ℕ → Type 0
-  Counted = InClass root made.class (min.IsBuilt entries)
+  abbrev pub Counted : machines.RootState → ℕ → Type 0
+  Counted = InClass root made.class (machines.IsBuilt entries)
 
   pub tree_twin : IsTwin tree small (λ a. a) (After Named Counted)
   tree_twin = twin_after tree root small (λ a. a) (λ a. a) Named Counted twin.1 (made.twin (context_of plain))
@@ -109,7 +109,7 @@ module _ (spec : Spec) (well : IsWellFormed spec) (entries : List EntryFsm) (m :
   rules = tree_keeps spec well tests
 
   -- the state of the trees that a number stands for
-  stands : (p : min.RootState) → min.IsBuilt entries p → (q : TreeState plain) × Named q p
+  stands : (p : machines.RootState) → machines.IsBuilt entries p → (q : TreeState plain) × Named q p
   stands None b = (None, (refl, tt))
   stands (Some (e, i)) b = (Some (e, twin.0 e i), (refl, b.1))
 

@@ -2,5 +2,4 @@ pub mod Found
 pub mod FitLaws
 pub mod WriteLaws
 pub mod NameLaws
-pub mod OneCharacterLaws
 pub mod NamedLaws

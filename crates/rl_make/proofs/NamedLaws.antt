@@ -28,7 +28,7 @@ use Rattle.rl_minimal.specs.Machine.{edge_for, go_of, edges_at, min_machine}
 use Rattle.rl_minimal.specs.Sound.{IsMinimal}
 use Rattle.rl_min.specs.Canonical.{IsMachineOf}
 use Rattle.rl_min.specs.Laws.{BeginIn}
-use Rattle.rl_min.specs.Roots as min
+use Rattle.rl_root.specs.Roots as machines
 use Rattle.rl_min.proofs.BreadthLaws.{built_known}
 use Rattle.rl_build.specs.Roots as built
 use Rattle.rl_layout.specs.Books.{uses_of, lists_of, order_of}
@@ -74,13 +74,13 @@ module _ (spec : Spec) (well : IsWellFormed spec) (entries : List EntryFsm) (m :
   abbrev tree : Machine (TreeState plain)
   tree = tree_machine plain tests
 
-  abbrev root : Machine min.RootState
-  root = min.root_machine entries (context_of plain)
+  abbrev root : Machine machines.RootState
+  root = machines.root_machine entries (context_of plain)
 
   abbrev small : Machine ℕ
   small = min_machine m (context_of plain)
 
-  abbrev By : TreeState plain → min.RootState → Type 0
+  abbrev By : TreeState plain → machines.RootState → Type 0
   By = Named spec well entries m made sound tests twin
 
   abbrev R : TreeState plain → ℕ → Type 0
@@ -169,7 +169,7 @@ module _ (spec : Spec) (well : IsWellFormed spec) (entries : List EntryFsm) (m :
           let f = in_all (EdgeFits spec) s.edges (recursion_from_All (EdgeFits spec) s.edges (fits_at i s q).edges) e j in
           (and_parts (has_key spec.alphabet e.range.lo) (has_key spec.alphabet e.range.hi) f.keys).0
 
-  along_root : (word : List (Key × ℕ)) (p r : min.RootState) (q : TreeState plain) → Leads root letters (length entries) word p r → By q p
+  along_root : (word : List (Key × ℕ)) (p r : machines.RootState) (q : TreeState plain) → Leads root letters (length entries) word p r → By q p
       → (t : TreeState plain) × Leads tree letters count word q t × By t r
   along_root [] p r q e n = (q, refl, subst (By q) e n)
   along_root (l ∷ word) p r q e n =
@@ -181,7 +181,7 @@ module _ (spec : Spec) (well : IsWellFormed spec) (entries : List EntryFsm) (m :
       by None f x k = absurd x
       by (Some g) f x k = let s = k g.target x.0 in (s.0, (g, f, s.1), s.2)
 
-  known_tree : (p : min.RootState) → IsKnown root letters (length entries) p → (q : TreeState plain) × IsKnown tree letters count q × By q p
+  known_tree : (p : machines.RootState) → IsKnown root letters (length entries) p → (q : TreeState plain) × IsKnown tree letters count q × By q p
   known_tree p (inl e) = (tree.failed, inl refl, subst (By tree.failed) (sym e) twin.1.failed)
   known_tree p (inr (e, low, high, word, path)) =
       let s = along_root word (root.entry e) p (tree.entry e) path (twin.1.entry e) in

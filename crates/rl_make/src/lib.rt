@@ -7,6 +7,3 @@ mod make;
 pub use laws::only_entries_matter;
 pub use make::tables_of;
 pub use rl_build::{BuildFault, BuildRefusal};
-
-#[cfg(test)]
-mod tests;

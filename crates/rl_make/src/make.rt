@@ -9,7 +9,7 @@ ghost use Rattle.rl_model.specs.RefusedNode.{IsBuildable};
 ghost use Rattle.rl_model.specs.Specification.{specification_of};
 ghost use Rattle.rl_model.specs.Trees.{HasHonestTests};
 ghost use Rattle.rl_model.specs.WellFormed.{IsWellFormed};
-ghost use Rattle.rl_build.specs.Entries.{AllPlain, TellsRefusal};
+ghost use Rattle.rl_build.specs.Entries.{TellsRefusal};
 ghost use Rattle.rl_make.specs.Named.{NamesUsed};
 ghost use Rattle.rl_make.specs.Writes.{IsBuiltOf, WritesAs, condition_names, entry_names};
 ghost use Rattle.rl_script.specs.TableNames.{names_in};
@@ -66,14 +66,12 @@ fn laid_out(alloc: Global, spec: &Spec, root: &RootFsm) -> Result<Tables, Memory
 
 /// The tables of a well-formed Spec: the machines of its entries are built, their states get canonical numbers, and they
 /// are laid out in arrays. The tables write for each script what the expressions write. They name the Spec's entries and
-/// conditions, and of its actions those that stand in a list of a state or step which the entries reach. Entries that
-/// are scanners (the guide's section 6.3) are not built yet.
+/// conditions, and of its actions those that stand in a list of a state or step which the entries reach.
 ///
 /// An `Err` tells the first node that is refused, with the entries in text order and the nodes of each in post-order:
-/// `L6`, `L8` or `F15`, as `build` says, with the place of its first token; or `Memory`, at no place of its own.
+/// `L6`, `L8`, `F15` or `F12`, as `build` says, with its place; or `Memory`, at no place of its own.
 pub fn tables_of(alloc: Global, spec: &Spec) -> Result<Tables, BuildRefusal>
-    requires well_formed { IsWellFormed spec.now }
-    requires plain { AllPlain spec.now }
+    requires { IsWellFormed spec.now }
     ensures valid { IfOk result Valid }
     ensures writes { IfOk result (WritesAs spec.now) }
     ensures entries { IfOk result (λ t. (names_in t).entries ≡ entry_names spec.now) }

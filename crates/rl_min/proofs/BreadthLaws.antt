@@ -13,19 +13,19 @@ use Rattle.rl_automata.specs.declared.moves.Move.{Move}
 use Rattle.rl_automata.proofs.Congruence.{reach_all}
 use Rattle.rl_explore.proofs.NumberLaws.{get_In, get_exists}
 use Rattle.rl_fsm.specs.declared.root.EntryFsm.{EntryFsm}
-use Rattle.rl_fsm.specs.Graphs.{fsm_auto}
+use Rattle.rl_fsm.specs.Roots.{graph_at, auto_at}
 use Rattle.rl_fsm.proofs.PieceLaws.{All-In}
 use Rattle.rl_run.specs.Machine.{Go, Machine}
 use Rattle.rl_run.specs.Twin.{IsTwin, GoR}
 use Rattle.rl_run.specs.Classes.{InClass, BothStep, AgreeAlong, AreAlike, AreClasses}
 use Rattle.rl_run.specs.Numbers.{letters_of, firsts, Leads, IsReached, IsKnown, IsBreadthFirst, targets}
 use Rattle.rl_model.specs.Parts.{Context, letter_of, start_at, go_at}
+use Rattle.rl_root.specs.Roots.{RootState, part_at, root_machine, IsBuilt}
 use Rattle.rl_minimal.specs.declared.state.MinState.{MinState}
 use Rattle.rl_minimal.specs.declared.state.MinEdge.{MinEdge}
 use Rattle.rl_minimal.specs.Minimal.{Minimal}
 use Rattle.rl_minimal.specs.Machine.{edge_for, edges_at, go_of, min_machine}
 use Rattle.rl_minimal.specs.Sound.{IsEdge, IsEntry, IsMinimal}
-use Rattle.rl_min.specs.Roots.{RootState, graph_at, part_at, root_machine, IsBuilt}
 use Rattle.rl_min.specs.Canonical.{targets_at, is_final, IsMachineOf}
 use Rattle.rl_min.specs.Laws.{BeginIn, AreUnlike, AreNumbered}
 use Rattle.rl_min.proofs.WalkLaws.{entry_from, in_range_from}
@@ -154,7 +154,7 @@ module _ (entries : List EntryFsm) (alphabet : Alphabet) (context : Context) (m 
       let w = reach_all (λ i. (word : List (Key × ℕ)) × Leads root letters count word (root.entry e) (Some (e, i))) ([], start) (λ i r w l v s. further i w.0 w.1 l v s) i b.1 in
       (e, n.0, n.1, w.0, w.1)
     where
-      further : (i : ℕ) (word : List (Key × ℕ)) → Leads root letters count word (root.entry e) (Some (e, i)) → (l : Letter) (v : Move ℕ) → (fsm_auto (graph_at entries e)).step i l ≡ Some v
+      further : (i : ℕ) (word : List (Key × ℕ)) → Leads root letters count word (root.entry e) (Some (e, i)) → (l : Letter) (v : Move ℕ) → (auto_at entries e).step i l ≡ Some v
           → (word : List (Key × ℕ)) × Leads root letters count word (root.entry e) (Some (e, v.to))
       further i word f l v s =
           let k : Key × ℕ = (record { 0 = l.key }, l.truths) in

@@ -11,11 +11,9 @@ use Rattle.rl_automata.proofs.Congruence.{none_in, some_in}
 use Rattle.rl_explore.proofs.NumberLaws.{get_exists}
 use Rattle.rl_explore.proofs.ExploredLaws.{different_within}
 use Rattle.rl_fsm.specs.declared.root.EntryFsm.{EntryFsm}
-use Rattle.rl_fsm.specs.declared.root.EntryFsm.TheVariants.{Plain}
-use Rattle.rl_fsm.specs.Roots.{states_of, states_in, entry_at}
+use Rattle.rl_fsm.specs.Roots.{graph_of, graph_at, states_of, states_in, entry_at}
 use Rattle.rl_fsm.specs.Sound.{IsSound}
 use Rattle.rl_min.specs.declared.place.Place.{Place}
-use Rattle.rl_min.specs.Roots.{graph_of, graph_at}
 use Rattle.rl_min.specs.Walks.{AreSound, IsWalk}
 use Rattle.rl_min.proofs.WalkLaws.{in_range_to, entry_from, reach_there, walk_differs}
 
@@ -25,15 +23,12 @@ not_zero e h = (elim (nat_eq e 0) as (λ b. nat_eq e 0 ≡ b → b ≡ false) [
   | false ↦ λ q. refl
 ]) refl
 
-states_is : (x : EntryFsm) → length (graph_of x).states ≡ states_of x
-states_is (Plain m) = refl
-
 -- the entry of a number
 pub entry_there : (entries : List EntryFsm) (e : ℕ) → 1 ≤ e → e ≤ length entries → (x : EntryFsm) × (slice_get entries (e - 1) ≡ Some x) × (length (graph_at entries e).states ≡ states_of x)
 entry_there entries e h k =
     let p = get_exists entries (e - 1) (omega arith) in
     let at : entry_at entries e ≡ Some p.0 = ap (λ b. cond b None (slice_get entries (e - 1))) (not_zero e h) ∙ p.1 in
-    (p.0, p.1, ap (λ o. length (on_part (record { start = 0; states = [] }) graph_of o).states) at ∙ states_is p.0)
+    (p.0, p.1, ap (λ o. length (on_part (record { start = 0; states = [] }) graph_of o).states) at)
 
 -- ---- all places
 
@@ -69,7 +64,7 @@ walk_few entries sound seen met w =
     let b = w.reached p h in
     let n = entry_from (length entries) p.entry b.0 in
     let x = entry_there entries p.entry n.0 n.1 in
-    let below : p.state < states_of x.0 = subst (λ c. p.state < c) x.2 (reach_there (graph_at entries p.entry) (sound.each p.entry n.0 n.1) p.state b.1) in
+    let below : p.state < states_of x.0 = subst (λ c. p.state < c) x.2 (reach_there entries p.entry (sound.each p.entry n.0 n.1).machine p.state b.1) in
     let low : 1 ≤ p.entry = n.0 in
     let same : 1 + (p.entry - 1) ≡ p.entry = omega arith in
     subst (λ e. In (record { entry = e; state = p.state }) (places_from 1 entries)) same (in_all entries 1 (p.entry - 1) p.state x.0 x.1 below)))

@@ -1,3 +1,4 @@
+pub mod KindLaws
 pub mod PlaceLaws
 pub mod WalkLaws
 pub mod FewLaws

@@ -14,11 +14,11 @@ use Rattle.rl_fsm.specs.declared.root.EntryFsm.{EntryFsm}
 use Rattle.rl_fsm.specs.declared.edge.Edge.{Edge}
 use Rattle.rl_fsm.specs.declared.state.State.{State}
 use Rattle.rl_run.specs.Numbers.{firsts}
+use Rattle.rl_root.specs.Roots.{RootState, IsBuilt}
 use Rattle.rl_minimal.specs.declared.state.MinState.{MinState}
 use Rattle.rl_minimal.specs.declared.state.MinEdge.{MinEdge}
 use Rattle.rl_minimal.specs.Minimal.{Minimal}
 use Rattle.rl_min.specs.declared.place.Place.{Place}
-use Rattle.rl_min.specs.Roots.{RootState, IsBuilt}
 use Rattle.rl_min.specs.Places.{with_places, number_in}
 use Rattle.rl_min.specs.Walks.{AreSound, IsWalk, start_of, starts_of, target_of, targets_of, is_final, plain_first, state_of}
 use Rattle.rl_min.specs.States.{min_edge, state_for}

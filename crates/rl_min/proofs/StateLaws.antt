@@ -14,13 +14,14 @@ use Rattle.rl_explore.proofs.NumberLaws.{get_below, get_front, get_In, In_get, g
 use Rattle.rl_fsm.specs.declared.root.EntryFsm.{EntryFsm}
 use Rattle.rl_fsm.specs.declared.state.State.{State}
 use Rattle.rl_fsm.specs.Graphs.{state_at}
+use Rattle.rl_fsm.specs.Roots.{graph_at}
+use Rattle.rl_root.specs.Roots.{RootState, IsBuilt}
 use Rattle.rl_minimal.specs.declared.state.MinState.{MinState}
 use Rattle.rl_minimal.specs.Minimal.{Minimal, numbers}
 use Rattle.rl_min.specs.declared.place.Place.{Place}
-use Rattle.rl_min.specs.Roots.{RootState, graph_at, IsBuilt}
 use Rattle.rl_min.specs.Places.{with_places, number_in}
 use Rattle.rl_min.specs.Walks.{AreSound, IsWalk, starts_of, is_final, plain_first, state_of}
-use Rattle.rl_min.specs.States.{min_state, error_state, state_for, states_for}
+use Rattle.rl_min.specs.States.{listed, min_state, error_state, state_for, states_for}
 use Rattle.rl_min.proofs.PlaceLaws.{different_filter, different_stay, halves_differ, halves_in, halves_from, number_there, number_at}
 use Rattle.rl_min.proofs.WalkLaws.{entry_from, reach_there, walk_differs, all_met}
 
@@ -37,15 +38,15 @@ abbrev pub class_of : List EntryFsm → List Place → RootState → ℕ
 class_of entries met None = 0
 class_of entries met (Some (e, i)) = number_in (plain_first entries met) (record { entry = e; state = i })
 
-pub numbers_same : (xs : List ℕ) → numbers (map (λ (n : ℕ). record { 0 = n }) xs) ≡ xs
+pub numbers_same : (xs : List ℕ) → numbers (listed xs) ≡ xs
 numbers_same [] = refl
 numbers_same (x ∷ xs) = ap (λ w. x ∷ w) (numbers_same xs)
 
 -- a list of actions is told by its numbers
-pub numbers_tell : (list : List ActionId) (xs : List ℕ) → numbers list ≡ xs → list ≡ map (λ (n : ℕ). record { 0 = n }) xs
-numbers_tell list xs e = back list ∙ ap (map (λ (n : ℕ). let a : ActionId = record { 0 = n } in a)) e
+pub numbers_tell : (list : List ActionId) (xs : List ℕ) → numbers list ≡ xs → list ≡ listed xs
+numbers_tell list xs e = back list ∙ ap listed e
   where
-    back : (list : List ActionId) → list ≡ map (λ (n : ℕ). record { 0 = n }) (numbers list)
+    back : (list : List ActionId) → list ≡ listed (numbers list)
     back [] = refl
     back (a ∷ list) = ap (λ w. a ∷ w) (back list)
 
@@ -58,14 +59,14 @@ module _ (test : Place → Bool) (xs : List Place) (d : AreDifferent xs) (p : Pl
   abbrev both : List Place
   both = plain ++ filter test xs
 
-  plain_number : test p ≡ false → number_in both p ≤ length plain
+  pub plain_number : test p ≡ false → number_in both p ≤ length plain
   plain_number e =
       let j = In_get plain p (In-filter (λ q. not (test q)) p xs h (ap not e)) in
       let n : number_in both p ≡ suc j.0 = number_at both j.0 p (halves_differ test xs d) (get_front plain (filter test xs) j.0 p j.1) in
       let b : j.0 < length plain = get_below plain j.0 p j.1 in
       omega arith
 
-  final_number : test p ≡ true → length plain + 1 ≤ number_in both p
+  pub final_number : test p ≡ true → length plain + 1 ≤ number_in both p
   final_number e =
       let n = number_there both p (halves_in test xs p h) in
       let is : number_in both p ≡ suc n.0 = n.2 in
@@ -127,19 +128,19 @@ module _ (entries : List EntryFsm) (sound : AreSound entries) (met : List Place)
   in_built p h = w.reached p (halves_from (is_final entries) met p h)
 
   -- the state of a state that is reached
-  pub state_is : (e i : ℕ) → IsBuilt entries (Some (e, i)) → (s : State) × (state_at (graph_at entries e) i ≡ Some s) × (slice_get M.states (number_in places (record { entry = e; state = i })) ≡ Some (min_state places e s))
+  pub state_is : (e i : ℕ) → IsBuilt entries (Some (e, i)) → (s : State) × (state_at (graph_at entries e) i ≡ Some s) × (slice_get M.states (number_in places (record { entry = e; state = i })) ≡ Some (min_state entries places (record { entry = e; state = i }) s))
   state_is e i b =
       let n = entry_from (length entries) e b.0 in
-      let s = get_exists (graph_at entries e).states i (reach_there (graph_at entries e) (sound.each e n.0 n.1) i b.1) in
+      let s = get_exists (graph_at entries e).states i (reach_there entries e (sound.each e n.0 n.1).machine i b.1) in
       let k = number_there places (record { entry = e; state = i }) (built_in e i b) in (
         s.0,
         s.1,
         ap (slice_get M.states) k.2 ∙ slice_get-map (state_for entries places) places k.0 ∙ ap (option_map (state_for entries places)) k.1
-            ∙ ap (λ o. Some (on_part error_state (min_state places e) o)) s.1,
+            ∙ ap (λ o. Some (on_part error_state (min_state entries places (record { entry = e; state = i })) o)) s.1,
       )
 
   -- what is told of it
-  pub shows : {X : Type 0} (F : Option State → X) (H : Option MinState → X) (e i : ℕ) → ((s : State) → H (Some (min_state places e s)) ≡ F (Some s)) → IsBuilt entries (Some (e, i))
+  pub shows : {X : Type 0} (F : Option State → X) (H : Option MinState → X) (e i : ℕ) → ((s : State) → H (Some (min_state entries places (record { entry = e; state = i }) s)) ≡ F (Some s)) → IsBuilt entries (Some (e, i))
       → H (slice_get M.states (number_in places (record { entry = e; state = i }))) ≡ F (state_at (graph_at entries e) i)
   shows F H e i h b = let p = state_is e i b in ap H p.2 ∙ h p.0 ∙ sym (ap F p.1)
 

@@ -19,20 +19,22 @@ use Rattle.rl_fsm.specs.declared.edge.Edge.{Edge}
 use Rattle.rl_fsm.specs.declared.state.State.{State}
 use Rattle.rl_fsm.specs.Reads.{takes, asks_at}
 use Rattle.rl_fsm.specs.Graphs.{state_at, edge_for, reads_of, move_of, carry_out, marks_of}
+use Rattle.rl_fsm.specs.Roots.{graph_at, scans_at, ends_at, token_list_at}
 use Rattle.rl_run.specs.Machine.{Machine}
 use Rattle.rl_run.specs.Twin.{Agrees, ListR, GoR, IsTwin}
 use Rattle.rl_run.specs.Classes.{InClass}
-use Rattle.rl_model.specs.Parts.{Context, letter_of, is_entry, go_at}
+use Rattle.rl_model.specs.Parts.{Context, letter_of, is_entry, kind_in, go_at}
+use Rattle.rl_root.specs.Roots.{RootState, part_at, root_machine, IsBuilt}
 use Rattle.rl_minimal.specs.declared.state.MinState.{MinState}
 use Rattle.rl_minimal.specs.Minimal.{Minimal, numbers}
 use Rattle.rl_minimal.specs.Minimal as L
 use Rattle.rl_minimal.specs.Machine.{go_of, entry_at, min_machine}
 use Rattle.rl_minimal.specs.Machine as N
 use Rattle.rl_min.specs.declared.place.Place.{Place}
-use Rattle.rl_min.specs.Roots.{RootState, graph_at, part_at, root_machine, IsBuilt}
 use Rattle.rl_min.specs.Places.{number_in}
 use Rattle.rl_min.specs.Walks.{AreSound, IsWalk, start_of, is_final, plain_first}
-use Rattle.rl_min.specs.States.{actions_of, min_edge, min_state}
+use Rattle.rl_min.specs.States.{listed, actions_of, home_of, min_edge, min_state}
+use Rattle.rl_min.proofs.KindLaws.{token_plain}
 use Rattle.rl_min.proofs.WalkLaws.{entry_is, all_met}
 use Rattle.rl_min.proofs.StateLaws.{made_of, class_of, numbers_same, final_is, met_differ, state_is, shows, number_positive}
 
@@ -82,6 +84,10 @@ not_final_error n = (elim (nat_le (n + 1) 0) as (λ b. nat_le (n + 1) 0 ≡ b �
   | false ↦ λ q. refl
 ]) refl
 
+numbers_plain : (b : Bool) (xs : List ℕ) → numbers (cond b [] (listed xs)) ≡ cond b [] xs
+numbers_plain true xs = refl
+numbers_plain false xs = numbers_same xs
+
 -- ---- the twin
 
 module _ (entries : List EntryFsm) (sound : AreSound entries) (met : List Place) (w : IsWalk entries met met) (context : Context) where
@@ -120,9 +126,9 @@ module _ (entries : List EntryFsm) (sound : AreSound entries) (met : List Place)
       → (q : RootState) (p : ℕ) → At q p → ListR root small (λ a. a) At (f q) (g p)
   same_lists f g z h q p r = same_list (f q) (g p) (same f g z h q p r)
 
-  told : {X : Type 0} (F : Option State → X) (H : Option MinState → X) → ((e : ℕ) (s : State) → H (Some (min_state places e s)) ≡ F (Some s)) → (e i : ℕ) → IsBuilt entries (Some (e, i))
-      → H (slice_get M.states (number_in places (record { entry = e; state = i }))) ≡ F (state_at (graph_at entries e) i)
-  told F H h e i b = shows entries sound met w F H e i (h e) b
+  told : {X : Type 0} (F : ℕ → ℕ → Option State → X) (H : Option MinState → X) → ((e i : ℕ) (s : State) → H (Some (min_state entries places (record { entry = e; state = i }) s)) ≡ F e i (Some s)) → (e i : ℕ) → IsBuilt entries (Some (e, i))
+      → H (slice_get M.states (number_in places (record { entry = e; state = i }))) ≡ F e i (state_at (graph_at entries e) i)
+  told F H h e i b = shows entries sound met w (F e i) H e i (h e i) b
 
   gos : (e : ℕ) (i : ℕ) (l : Letter) (s : State) → state_at (graph_at entries e) i ≡ Some s → IsBuilt entries (Some (e, i)) → (o : Option Edge) → edge_for l s.edges ≡ o
       → GoR root small (λ a. a) At (option_map (go_at (λ e. ℕ) (part_at entries) e) (option_map move_of o)) (option_map go_of (option_map (min_edge places e) o))
@@ -172,20 +178,21 @@ module _ (entries : List EntryFsm) (sound : AreSound entries) (met : List Place)
     width = refl;
     key_of = λ character. refl;
     asked = λ q p key r. same (λ q. root.asked q key) (λ p. small.asked p key) refl
-        (told (on_part 0 (λ (s : State). asks_at key.0 (map reads_of s.edges))) (λ o. asks_at key.0 (map L.reads_of (option_map_or (λ (s : MinState). s.edges) o []))) (λ e s. ap (asks_at key.0) (reads_same places e s.edges))) q p r;
+        (told (λ e i. on_part 0 (λ (s : State). asks_at key.0 (map reads_of s.edges))) (λ o. asks_at key.0 (map L.reads_of (option_map_or (λ (s : MinState). s.edges) o []))) (λ e i s. ap (asks_at key.0) (reads_same places e s.edges))) q p r;
     find = λ q p key hold r. finds q p key hold r;
     from = same_lists root.from small.from refl
-        (told (λ o. once (on_part [] (λ (s : State). marks_of K.From s.marks) o)) (λ o. option_map_or (λ (s : MinState). numbers s.from) o []) (λ e s. numbers_same (once s.marks.from)));
+        (told (λ e i o. once (on_part [] (λ (s : State). marks_of K.From s.marks) o)) (λ o. option_map_or (λ (s : MinState). numbers s.from) o []) (λ e i s. numbers_same (once s.marks.from)));
     to = same_lists root.to small.to refl
-        (told (λ o. once (on_part [] (λ (s : State). marks_of K.To s.marks) o)) (λ o. option_map_or (λ (s : MinState). numbers s.to) o []) (λ e s. numbers_same (once s.marks.to)));
+        (told (λ e i o. once (on_part [] (λ (s : State). marks_of K.To s.marks) o)) (λ o. option_map_or (λ (s : MinState). numbers s.to) o []) (λ e i s. numbers_same (once s.marks.to)));
     error = same_lists root.error small.error refl
-        (told (λ o. once (on_part [] (λ (s : State). marks_of K.Error s.marks) o)) (λ o. option_map_or (λ (s : MinState). numbers s.error) o []) (λ e s. numbers_same (once s.marks.error)));
+        (told (λ e i o. cond (scans_at entries e) [] (once (on_part [] (λ (s : State). marks_of K.Error s.marks) o))) (λ o. option_map_or (λ (s : MinState). numbers s.error) o []) (λ e i s. numbers_plain (scans_at entries e) (once s.marks.error)));
     eof = same_lists root.eof small.eof refl
-        (told (λ o. once (stamps_of (on_part [] (λ (s : State). marks_of K.Eof s.marks) o
-        ++ cond (on_part false (λ (s : State). s.fin) o) (on_part no_carry (λ (s : State). carry_out s.out) o).actions (on_part [] (λ (s : State). marks_of K.Error s.marks) o))))
-        (λ o. option_map_or (λ (s : MinState). numbers s.eof) o []) (λ e s. numbers_same (once (stamps_of (s.marks.eof ++ cond s.fin s.out.actions s.marks.error)))));
-    token = same_lists root.token small.token refl (told (λ o. []) (λ o. option_map_or (λ (s : MinState). numbers s.token) o []) (λ e s. refl));
-    kind = same root.kind small.kind refl (told (λ o. 0) (λ o. option_map_or (λ (s : MinState). s.kind) o 0) (λ e s. refl));
+        (told (λ e i o. cond (scans_at entries e) [] (once (stamps_of (on_part [] (λ (s : State). marks_of K.Eof s.marks) o
+        ++ cond (ends_at entries e i) (on_part no_carry (λ (s : State). carry_out s.out) o).actions (on_part [] (λ (s : State). marks_of K.Error s.marks) o)))))
+        (λ o. option_map_or (λ (s : MinState). numbers s.eof) o []) (λ e i s. numbers_plain (scans_at entries e) (once (stamps_of (s.marks.eof ++ cond (ends_at entries e i) s.out.actions s.marks.error)))));
+    token = same_lists root.token small.token refl (told (λ e i o. cond (scans_at entries e) (token_list_at entries e i) []) (λ o. option_map_or (λ (s : MinState). numbers s.token) o [])
+        (λ e i s. numbers_same (token_list_at entries e i) ∙ sym (token_plain entries e i)));
+    kind = same root.kind small.kind refl (told (λ e i o. kind_in (part_at entries e) i) (λ o. option_map_or (λ (s : MinState). s.kind) o 0) (λ e i s. refl));
     final = same root.final small.final (not_final_error (length (filter (λ p. not (is_final entries p)) met)))
         (λ e i b. final_is (is_final entries) met (met_differ entries sound met w) (record { entry = e; state = i }) (all_met entries sound met w e i b));
     home = λ q p r. homes q p r;
@@ -198,4 +205,8 @@ module _ (entries : List EntryFsm) (sound : AreSound entries) (met : List Place)
     where
       homes : (q : RootState) (p : ℕ) → At q p → At (root.home q) (small.home p)
       homes None p r = (ap small.home r.0, tt)
-      homes (Some (e, i)) p r = (ap small.home r.0 ∙ told (λ o. 0) (λ o. option_map_or (λ (s : MinState). s.home) o 0) (λ e s. refl) e i r.1, tt)
+      homes (Some (e, i)) p r = subst (At (root.home (Some (e, i)))) (sym (ap small.home r.0 ∙ told (λ e i o. home_of entries places e) (λ o. option_map_or (λ (s : MinState). s.home) o 0) (λ e i s. refl) e i r.1)) (by (scans_at entries e))
+        where
+          by : (b : Bool) → At (cond b (Some (e, (graph_at entries e).start)) None) (cond b (number_in places (start_of entries e)) 0)
+          by true = (refl, (r.1.0, begun))
+          by false = (refl, tt)

@@ -18,12 +18,13 @@ use Rattle.rl_fsm.specs.declared.edge.Edge.{Edge}
 use Rattle.rl_fsm.specs.declared.state.State.{State}
 use Rattle.rl_fsm.specs.Reads.{takes, own_letter}
 use Rattle.rl_fsm.specs.Graphs.{Graph, fsm_auto, state_at, edges_at, edge_for, reads_of, move_of}
+use Rattle.rl_fsm.specs.Roots.{graph_at, auto_at}
 use Rattle.rl_fsm.specs.Sound.{IsEdge, AreEdges, IsSound}
 use Rattle.rl_fsm.proofs.PieceLaws.{All-In}
 use Rattle.rl_fsm.proofs.Walks.{finds_each}
 use Rattle.rl_model.specs.Parts.{is_entry}
+use Rattle.rl_root.specs.Roots.{IsBuilt}
 use Rattle.rl_min.specs.declared.place.Place.{Place}
-use Rattle.rl_min.specs.Roots.{graph_at, IsBuilt}
 use Rattle.rl_min.specs.Places.{with_places}
 use Rattle.rl_min.specs.Walks.{AreSound, IsWalk, start_of, starts_of, target_of, targets_of, state_of}
 use Rattle.rl_min.proofs.PlaceLaws.{places_differ, places_extend, places_in, places_from, places-append}
@@ -71,9 +72,11 @@ module _ (m : Graph) where
       by None q j = absurd j
       by (Some s) q j = All-In (IsEdge (length m.states)) s.edges e (edges_sound h i s q).each j
 
-  pub reach_there : IsSound m → (i : ℕ) → Reach (fsm_auto m) i → i < length m.states
-  reach_there h = reach_all (λ i. i < length m.states) h.start (λ i r b l v e.
-      let p = step_edge i l v e in subst (λ w. w < length m.states) p.2 (edge_sound h i p.0 p.1).target)
+-- what a word leads to is a state
+pub reach_there : (entries : List EntryFsm) (e : ℕ) → IsSound (graph_at entries e) → (i : ℕ) → Reach (auto_at entries e) i → i < length (graph_at entries e).states
+reach_there entries e h = reach_all (λ i. i < length (graph_at entries e).states) h.start (λ i r b l v q.
+    let p = step_edge (graph_at entries e) i l v q in
+    subst (λ w. w < length (graph_at entries e).states) p.2 (edge_sound (graph_at entries e) h i p.0 p.1).target)
 
 -- ---- numbers of entries
 
@@ -125,7 +128,7 @@ module _ (entries : List EntryFsm) (sound : AreSound entries) where
       let e = In-map_from (target_of entries p.entry) q (edges_at (graph_at entries p.entry) p.state) i in
       let n = entry_from (length entries) p.entry h.0 in
       subst (λ w. IsBuilt entries (state_of entries w)) e.2
-      (h.0, went h.1 (own_letter (reads_of e.0)) (move_of e.0) (edge_step (graph_at entries p.entry) (sound.each p.entry n.0 n.1) p.state e.0 e.1))
+      (h.0, went h.1 (own_letter (reads_of e.0)) (move_of e.0) (edge_step (graph_at entries p.entry) (sound.each p.entry n.0 n.1).machine p.state e.0 e.1))
 
   pub walk_first : (starts met : List Place) → starts ≡ starts_of entries → met ≡ with_places [] starts → IsWalk entries [] met
   walk_first starts met s e = record {

@@ -9,7 +9,7 @@ use Rattle.rl_model.specs.Parts.{Context}
 use Rattle.rl_minimal.specs.declared.state.MinEdge.{MinEdge}
 use Rattle.rl_minimal.specs.Minimal.{Minimal}
 use Rattle.rl_minimal.specs.Machine.{edges_at, min_machine}
-use Rattle.rl_min.specs.Roots.{RootState, root_machine, IsBuilt}
+use Rattle.rl_root.specs.Roots.{RootState, root_machine, IsBuilt}
 
 -- where the edges of a state lead, by ascending key and then truths
 abbrev pub targets_at : Minimal → ℕ → List ℕ

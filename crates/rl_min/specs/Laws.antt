@@ -11,7 +11,7 @@ use Rattle.rl_model.specs.Parts.{Context}
 use Rattle.rl_minimal.specs.declared.state.MinEdge.{MinEdge}
 use Rattle.rl_minimal.specs.Minimal.{Minimal}
 use Rattle.rl_minimal.specs.Machine.{edges_at}
-use Rattle.rl_min.specs.Roots.{RootState, root_machine}
+use Rattle.rl_root.specs.Roots.{RootState, root_machine}
 use Rattle.rl_min.specs.Canonical.{IsMachineOf}
 
 -- the alphabet has the first key of each edge

@@ -1,4 +1,3 @@
-pub mod Roots
 pub mod Places
 pub mod Walks
 pub mod States

@@ -4,11 +4,14 @@ use Rattle.std.specs.List.{filter, flat_map, range_with_len}
 use Rattle.rl_sets.specs.Sets.{In}
 use Rattle.rl_fsm.specs.declared.root.EntryFsm.{EntryFsm}
 use Rattle.rl_fsm.specs.declared.edge.Edge.{Edge}
-use Rattle.rl_fsm.specs.Graphs.{fsm_auto, edges_at}
-use Rattle.rl_fsm.specs.Roots.{states_in}
+use Rattle.rl_fsm.specs.declared.root.EntryFsm.TheVariants.{Scanner}
+use Rattle.rl_fsm.specs.Graphs.{edges_at}
+use Rattle.rl_fsm.specs.Roots.{states_in, entry_at, graph_at}
+use Rattle.rl_fsm.specs.Scanned.{Scanned, IsScanned}
 use Rattle.rl_fsm.specs.Sound.{IsSound}
+use Rattle.rl_model.specs.Parts.{final_in}
+use Rattle.rl_root.specs.Roots.{RootState, part_at, IsBuilt}
 use Rattle.rl_min.specs.declared.place.Place.{Place}
-use Rattle.rl_min.specs.Roots.{RootState, graph_at, IsBuilt}
 use Rattle.rl_min.specs.Places.{with_places}
 
 module _ (entries : List EntryFsm) where
@@ -28,16 +31,22 @@ module _ (entries : List EntryFsm) where
   abbrev pub targets_of : Place → List Place
   targets_of p = map (target_of p.entry) (edges_at (graph_at entries p.entry) p.state)
 
+  -- in a scanner the start alone is final
   abbrev pub is_final : Place → Bool
-  is_final p = (fsm_auto (graph_at entries p.entry)).final p.state
+  is_final p = final_in (part_at entries p.entry) p.state
 
   -- the same as a state of the machine of all entries
   abbrev pub state_of : Place → RootState
   state_of p = Some (p.entry, p.state)
 
+  -- the machine of the entry is sound, and what a scanner has is a machine with its token lists
+  pub record IsSoundAt (e : ℕ) : Type 0 where
+    pub machine : IsSound (graph_at entries e)
+    pub scanner : (s : Scanned) → entry_at entries e ≡ Some (Scanner s) → IsScanned s
+
   -- each entry's machine is sound, and together they have few states
   pub record AreSound : Type 0 where
-    pub each : (e : ℕ) → 1 ≤ e → e ≤ length entries → IsSound (graph_at entries e)
+    pub each : (e : ℕ) → 1 ≤ e → e ≤ length entries → IsSoundAt e
     pub few : states_in entries ≤ 2147483646
 
   -- as far as a walk has come: it has seen where these places lead

@@ -6,12 +6,10 @@ pub mod laws;
 mod lists;
 mod machine;
 mod numbered;
+mod parts;
 mod place;
 mod places;
 mod states;
 mod walk;
 
 pub use machine::minimise;
-
-#[cfg(test)]
-mod tests;

@@ -13,9 +13,10 @@ use std::alloc::Global;
 
 /// The machine that the entries make together: Error, which has number 0, and the states that their starts reach. These
 /// count from 1 in the order in which a breadth-first walk meets them, from the entries in text order, by ascending key
-/// and then truths; those that are not final stand before those that are (this profile). No states are merged. Lists of
-/// actions are in the order of their stamps, and of several copies of an action the first stays. An `Err` is want of
-/// memory.
+/// and then truths; those that are not final stand before those that are, and of a scanner's states the start alone is
+/// final (this profile). No states are merged. Lists of actions are in the order of their stamps, and of several copies
+/// of an action the first stays. A scanner's states have their kinds, the number of its start as their home, and the
+/// lists of their tokens (the guide's section 6.3); they have no end-of-file and error lists. An `Err` is want of memory.
 pub fn minimise(alloc: Global, root: &RootFsm) -> Result<MinFsm, Memory>
     requires { 1 ≤ length root.now }
     ensures { IfOk result (λ m. IsMachineOf root.now m) }

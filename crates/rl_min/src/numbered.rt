@@ -4,8 +4,8 @@ ghost use Rattle.std.specs.List.{filter};
 ghost use Rattle.rl_min.specs.Places.{with_places, number_in};
 ghost use Rattle.rl_min.specs.Walks.{is_final, is_in_half};
 
-use crate::entries::is_final;
 use crate::lists::push;
+use crate::parts::is_final;
 use crate::place::Place;
 use crate::places::{add_place, number_in, place_at};
 use indexmap::IndexSet;

@@ -3,7 +3,7 @@ ghost use Rattle.std.specs.Prelude.{◌≡◌, ◌≤◌, IfOk, length};
 ghost use Rattle.rl_min.specs.Places.{with_places};
 ghost use Rattle.rl_min.specs.Walks.{AreSound, IsWalk, starts_of, targets_of};
 
-use crate::entries::edges_at;
+use crate::parts::edges_at;
 use crate::place::Place;
 use crate::places::{add_place, add_places, place_at};
 use indexmap::IndexSet;

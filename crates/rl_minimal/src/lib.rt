@@ -7,6 +7,3 @@ mod state;
 
 pub use min::MinFsm;
 pub use state::{MinEdge, MinState};
-
-#[cfg(test)]
-mod tests;

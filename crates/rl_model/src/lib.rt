@@ -19,6 +19,3 @@ pub use rows::{
     priorities_decide, state_actions_run, tokens_are_longest,
 };
 pub use spec::{ActionDef, Entry, Frame, Pattern, Root, Spec, Write, WriteKind};
-
-#[cfg(test)]
-mod tests;

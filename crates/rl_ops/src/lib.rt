@@ -12,8 +12,6 @@ mod parts;
 mod prune;
 mod rounds;
 mod settle;
-#[cfg(test)]
-mod tests;
 
 pub use chain::cat;
 pub use pair::or;

@@ -13,13 +13,12 @@ use Rattle.rl_automata.proofs.Tests.{on_states, closed_exists}
 use Rattle.rl_fsm.specs.declared.edge.Edge.{Edge}
 use Rattle.rl_fsm.specs.declared.state.State.{State}
 use Rattle.rl_fsm.specs.Reads.{takes, own_letter}
-use Rattle.rl_fsm.specs.Graphs.{Graph, fsm_auto, state_at, edges_at, edge_for, reads_of, move_of}
+use Rattle.rl_fsm.specs.Graphs.{Graph, fsm_auto, state_at, edges_at, edge_for, reads_of, move_of, has_no_edge}
 use Rattle.rl_fsm.specs.Sound.{IsEdge, AreEdges, IsSound}
 use Rattle.rl_fsm.proofs.PieceLaws.{All-In}
 use Rattle.rl_fsm.proofs.Walks.{finds_each, reaches_each}
-use Rattle.rl_scan.specs.Scanned.{Scanned}
+use Rattle.rl_fsm.specs.Scanned.{Scanned}
 use Rattle.rl_scan.specs.Scanners.{ScannerStandsFor}
-use Rattle.rl_scan.specs.Closed.{has_no_edge}
 use Rattle.rl_scan.proofs.WalkLaws.{step_edges}
 
 pub closed_told : (m : Graph) → IsSound m → TellsClosed (fsm_auto m) (has_no_edge m)

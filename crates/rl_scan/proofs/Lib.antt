@@ -4,5 +4,4 @@ pub mod SideLaws
 pub mod CauseLaws
 pub mod WalkLaws
 pub mod FaultLaws
-pub mod ScannedLaws
 pub mod ClosedLaws

@@ -18,7 +18,7 @@ use Rattle.rl_automata.proofs.PruneLaws.{quiet_reach}
 use Rattle.rl_fsm.specs.Graphs.{Graph, fsm_auto}
 use Rattle.rl_fsm.proofs.Walks.{reaches_each}
 use Rattle.rl_scan.specs.Beside.{first_part, behind, steps_at, carried, kept_parts, kept_labels, any_final, first_out, first_token, tokens_of, all_marks, all_asked, all_starts, side_auto, side_jams}
-use Rattle.rl_scan.specs.Scanned.{Scanned}
+use Rattle.rl_fsm.specs.Scanned.{Scanned}
 use Rattle.rl_scan.specs.Scanners.{BuildsScanner, ScannerStandsFor, StandForPatterns, AreBuiltOf}
 
 -- ---- one machine

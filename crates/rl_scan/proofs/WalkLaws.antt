@@ -18,7 +18,7 @@ use Rattle.rl_fsm.specs.Graphs.{Graph, fsm_auto, state_at, edges_at, edge_for, r
 use Rattle.rl_fsm.specs.Builds.{Builds, known_after, known_from, targets_in, and_then}
 use Rattle.rl_fsm.proofs.Walks.{finds_each, reaches_each}
 use Rattle.rl_explore.proofs.NumberLaws.{length-push}
-use Rattle.rl_scan.specs.Scanned.{token_at}
+use Rattle.rl_fsm.specs.Scanned.{token_at}
 use Rattle.rl_scan.specs.Beside.{side_auto, tokens_of}
 use Rattle.rl_scan.specs.Scanners.{BuildsScanner}
 use Rattle.rl_scan.specs.Walks.{to_of, with_target, with_targets, with_state, walked_up, walked, AreNamed}

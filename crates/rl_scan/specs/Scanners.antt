@@ -13,7 +13,7 @@ use Rattle.rl_explore.specs.declared.fault.BuildFault.{BuildFault}
 use Rattle.rl_explore.specs.declared.fault.BuildFault.TheVariants.{L6, L8, F12, F15, Memory}
 use Rattle.rl_explore.specs.Numbers.{IsCause, HasNoCause}
 use Rattle.rl_scan.specs.Beside.{side_auto, side_jams, first_empty_from}
-use Rattle.rl_scan.specs.Scanned.{Scanned, token_at}
+use Rattle.rl_fsm.specs.Scanned.{Scanned, token_at}
 
 -- The machine is the automaton's reachable part, and each of its states has the token list of the configuration that it is.
 pub record BuildsScanner {S : Type 0} (A : Auto S) (list_of : S → Option (List ℕ)) (s : Scanned) : Type 0 where

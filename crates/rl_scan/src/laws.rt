@@ -1,8 +1,8 @@
 //! Laws of scanners. Each function does nothing: its contract is the law, which is proved.
 ghost use Rattle.rl_automata.specs.Scans.{TellsClosed};
-ghost use Rattle.rl_fsm.specs.Graphs.{Graph, fsm_auto};
+ghost use Rattle.rl_fsm.specs.Graphs.{Graph, fsm_auto, has_no_edge};
 ghost use Rattle.rl_fsm.specs.Sound.{IsSound};
-ghost use Rattle.rl_scan.specs.Closed.{has_no_edge, ScannersHaveTests};
+ghost use Rattle.rl_scan.specs.Closed.{ScannersHaveTests};
 ghost use Rattle.rl_scan.specs.Scanners.{ScannerCauses};
 
 /// Where the patterns' machines are built of their expressions, a fault of `scanner` has its cause exactly where the

@@ -8,13 +8,10 @@ mod operator;
 mod part;
 mod parts;
 mod patterns;
-mod scan_fsm;
 mod settle;
-#[cfg(test)]
-mod tests;
 mod tokens;
 mod walk;
 
 pub use patterns::scanner;
 pub use rl_explore::BuildFault;
-pub use scan_fsm::ScanFsm;
+pub use rl_fsm::ScanFsm;

@@ -11,11 +11,10 @@ ghost use Rattle.rl_scan.specs.Scanners.{BuildsScanner, ScannerStandsFor, StandF
 ghost use Rattle.rl_scan.specs.Walks.{walked};
 
 use crate::operator::Side;
-use crate::scan_fsm::ScanFsm;
 use crate::tokens::token_lists;
 use crate::walk::configurations;
 use rl_explore::{BuildFault, explore};
-use rl_fsm::Fsm;
+use rl_fsm::{Fsm, ScanFsm};
 use rl_types::{ActionId, Memory};
 use std::alloc::Global;
 

@@ -5,10 +5,10 @@ use Rattle.rl_build.proofs.AnswerLaws.{ok_of, on_ok_of, err_of}
 use Rattle.rl_build.proofs.entries.build.Goals as goal
 
 pub machines-requires-clause-ready : goal.machines-requires-clause-ready
-machines-requires-clause-ready c = entries_ready c.args.spec.now c.requires.well_formed c.requires.plain
+machines-requires-clause-ready c = entries_ready c.args.spec.now c.requires
 
 pub machines-requires-clause-few : goal.machines-requires-clause-few
-machines-requires-clause-few c = c.requires.well_formed.few_entries
+machines-requires-clause-few c = c.requires.few_entries
 
 pub returns-clause-follows : goal.returns-clause-follows
 returns-clause-follows c = ok_of _ _ _ c.machines.result (λ root h. machines_of c.args.spec.now.alphabet c.args.spec.now.entries root h) c.machines.ensures

@@ -1,13 +1,18 @@
-use Rattle.std.proofs.Common.{ap, sym}
+use Rattle.std.proofs.Common.{ap, sym, subst}
+use Rattle.std.specs.Prelude.{MatchResult}
 use Rattle.rl_model.specs.Specification.{root_of}
-use Rattle.rl_build.proofs.EntryLaws.{fit_tree, entry_built, entry_told}
+use Rattle.rl_build.specs.Entries.{IsFitRoot, IsEntryBuilt, IsRootRefused}
 use Rattle.rl_build.proofs.entries.machine_of.Goals as goal
 
-pub expression-requires : goal.expression-requires
-expression-requires c = fit_tree _ _ (ap root_of c.in-Plain.is) c.requires.fit
+pub plain-requires : goal.plain-requires
+plain-requires c = subst IsFitRoot (ap root_of c.in-Plain.is) c.requires
 
-pub returns-in-Ok : goal.returns-in-Ok
-returns-in-Ok c = entry_built c.args.alphabet _ _ c.in-Ok.built (ap root_of (sym c.in-Plain.is)) c.in-Ok.ensures.answer
+pub scanned-requires : goal.scanned-requires
+scanned-requires c = rw c.as_slice.ensures (subst IsFitRoot (ap root_of c.in-Scanner.is) c.requires)
 
-pub returns-in-Err : goal.returns-in-Err
-returns-in-Err c = entry_told c.args.alphabet c.args.entry.now _ c.in-Err.refused c.refusal.result (ap root_of (sym c.in-Plain.is)) c.in-Err.ensures.answer c.refusal.ensures.fault (rw c.as_slice.ensures at c.refusal.ensures.place)
+pub returns-in-Plain : goal.returns-in-Plain
+returns-in-Plain c = subst (λ x. MatchResult c.plain.result (IsEntryBuilt c.args.alphabet x) (IsRootRefused c.args.alphabet x)) (ap root_of (sym c.in-Plain.is)) c.plain.ensures
+
+pub returns-in-Scanner : goal.returns-in-Scanner
+returns-in-Scanner c =
+    subst (λ x. MatchResult c.scanned.result (IsEntryBuilt c.args.alphabet x) (IsRootRefused c.args.alphabet x)) (ap root_of (sym c.in-Scanner.is)) (rw c.as_slice.ensures at c.scanned.ensures)

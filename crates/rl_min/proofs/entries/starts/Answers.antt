@@ -3,9 +3,7 @@ use Rattle.std.specs.List.{range_with_len}
 use Rattle.std.proofs.lemmas.Bool.{cases_lt}
 use Rattle.std.proofs.lemmas.List.FromFn.{map-range_with_len_more}
 use Rattle.rl_fsm.specs.Roots.{states_in}
-use Rattle.rl_fsm.specs.Sound.{IsSound}
-use Rattle.rl_min.specs.Roots.{graph_at}
-use Rattle.rl_min.specs.Walks.{start_of}
+use Rattle.rl_min.specs.Walks.{IsSoundAt, start_of}
 use Rattle.rl_min.proofs.FewLaws.{entries_few}
 use Rattle.rl_min.proofs.entries.starts.Goals as goal
 
@@ -15,11 +13,11 @@ entries-preserved c =
     let n = c.entries.entry in
     let low : 1 ≤ n = c.entries.invariant.from_one in
     let there = c.in-Some.ensures.there in
-    let sound : (e : ℕ) → 1 ≤ e → e < n + 1 → IsSound (graph_at root e) = λ e h k. elim (cases_lt e n) [
+    let sound : (e : ℕ) → 1 ≤ e → e < n + 1 → IsSoundAt root e = λ e h k. elim (cases_lt e n) [
       | inl l ↦ c.entries.invariant.sound e h l
-      | inr g ↦ let same : n ≡ e = omega arith in subst (λ w. IsSound (graph_at root w)) same c.in-Some.ensures.sound
+      | inr g ↦ let same : n ≡ e = omega arith in subst (IsSoundAt root) same c.in-Some.ensures.sound
     ] in
-    let count : n ≤ states_in root = entries_few root n there (λ e h k. let l : e < n + 1 = omega arith in sound e h l) in
+    let count : n ≤ states_in root = entries_few root n there (λ e h k. let l : e < n + 1 = omega arith in (sound e h l).machine) in
     let few : states_in root ≤ 2147483646 = c.in-Some.ensures.few in
     let one : 1 + (n - 1) ≡ n = omega arith in
     let next : (n - 1) + 1 ≡ n + 1 - 1 = omega arith in

@@ -1,8 +1,6 @@
 use Rattle.std.proofs.Common.{◌≡◌, ◌≤◌, ◌<◌, ◌+◌, ◌-◌, ℕ, map, length}
 use Rattle.std.specs.List.{range_with_len}
-use Rattle.rl_fsm.specs.Sound.{IsSound}
-use Rattle.rl_min.specs.Roots.{graph_at}
-use Rattle.rl_min.specs.Walks.{start_of}
+use Rattle.rl_min.specs.Walks.{IsSoundAt, start_of}
 use Rattle.rl_min.proofs.entries.starts.Given as goal
 
 abbrev pub invariant-entries : goal.invariant-entries
@@ -11,7 +9,7 @@ invariant-entries l = record {
   from_one : 1 ≤ l.entry;
   within : l.entry ≤ length l.root + 1;
   few : l.entry ≤ 2147483647;
-  sound : (e : ℕ) → 1 ≤ e → e < l.entry → IsSound (graph_at l.root e);
+  sound : (e : ℕ) → 1 ≤ e → e < l.entry → IsSoundAt l.root e;
 }
 
 abbrev pub decreases-entries : goal.decreases-entries

@@ -1,7 +1,7 @@
 use Rattle.std.proofs.Common.{sym, subst}
 use Rattle.rl_automata.specs.Auto.{quiet}
 use Rattle.rl_scan.specs.Beside.{side_auto, tokens_of}
-use Rattle.rl_scan.specs.Scanned.{Scanned}
+use Rattle.rl_fsm.specs.Scanned.{Scanned}
 use Rattle.rl_scan.specs.Scanners.{BuildsScanner}
 use Rattle.rl_scan.proofs.WalkLaws.{built}
 use Rattle.rl_scan.proofs.patterns.scanned.Goals as goal

@@ -3,7 +3,7 @@ use Rattle.std.specs.Prelude.{IfOk, OnOk}
 use Rattle.rl_automata.specs.Auto.{quiet}
 use Rattle.rl_fsm.specs.Graphs.{Graph}
 use Rattle.rl_scan.specs.Beside.{side_auto, tokens_of}
-use Rattle.rl_scan.specs.Scanned.{Scanned}
+use Rattle.rl_fsm.specs.Scanned.{Scanned}
 use Rattle.rl_scan.specs.Scanners.{BuildsScanner, HasNoScanCause}
 use Rattle.rl_scan.proofs.FaultLaws.{if_ok_to}
 use Rattle.rl_scan.proofs.SideLaws.{scanner_stands}

@@ -2,7 +2,7 @@
 use Rattle.std.proofs.Common.{◌≡◌, ℕ, ◌<◌, true, false, length, refl, sym, ◌∙◌, subst, true≢false}
 use Rattle.std.specs.Prelude.{◌↔◌, IsTrue}
 use Rattle.rl_fsm.specs.Graphs.{Graph, edges_at}
-use Rattle.rl_scan.specs.Scanned.{leads_to, IsLeftForGood}
+use Rattle.rl_fsm.specs.Scanned.{leads_to, IsLeftForGood}
 
 -- one of them leads to it
 pub returned : (m : Graph) (i : ℕ) → i < length m.states → leads_to m.start (edges_at m i) ≡ true → IsTrue false ↔ IsLeftForGood m

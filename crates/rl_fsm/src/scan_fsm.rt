@@ -1,9 +1,10 @@
 // Machines of scanners.
 ghost use Rattle.std.specs.Prelude.{◌≡◌, ◌↔◌, IsTrue, None};
 ghost use Rattle.std.specs.Option.{option_copied};
-ghost use Rattle.rl_scan.specs.Scanned.{leads_to, token_at, IsLeftForGood, IsScanned};
+ghost use Rattle.rl_fsm.specs.Scanned.{leads_to, token_at, IsLeftForGood, IsScanned};
 
-use rl_fsm::{Edge, Fsm};
+use crate::edge::Edge;
+use crate::fsm::Fsm;
 use rl_types::{ActionId, List};
 use std::marker::Model;
 
@@ -16,11 +17,11 @@ pub struct ScanFsm {
 }
 
 impl Model for ScanFsm {
-    ghost use Rattle.rl_scan.specs.Scanned.{Scanned};
+    ghost use Rattle.rl_fsm.specs.Scanned.{Scanned};
 
     ghost Value = { Scanned };
 
-    ghost use Rattle.rl_scan.specs.Scanned.{IsScanned};
+    ghost use Rattle.rl_fsm.specs.Scanned.{IsScanned};
 
     ghost view = { λ s. record { machine = s.machine; tokens = s.tokens.items } };
 
@@ -79,7 +80,7 @@ fn is_scanned(machine: &Fsm, tokens: &[Option<List<ActionId>>]) -> bool
 impl ScanFsm {
     ghost use Rattle.std.specs.Prelude.{◌≡◌, ◌<◌, ◌↔◌, IfSome, IsSome, length};
     ghost use Rattle.std.specs.Option.{option_copied};
-    ghost use Rattle.rl_scan.specs.Scanned.{Scanned, IsScanned, token_at};
+    ghost use Rattle.rl_fsm.specs.Scanned.{Scanned, IsScanned, token_at};
 
     /// The scanner of this machine and these token lists, one for each state; None exactly where there are not as many
     /// lists as states, an edge leads to the start, or the start has a list. It takes no memory.
