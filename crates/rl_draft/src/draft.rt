@@ -19,8 +19,8 @@ pub struct Pattern {
 pub enum Value {
     /// An expression.
     Expression(Expression),
-    /// The patterns of a scanner, in text order.
-    Scanner(List<Pattern>),
+    /// The patterns of a scanner, in text order, and the place of its `|*`.
+    Scanner(List<Pattern>, Place),
 }
 
 /// Whether a definition makes an entry.

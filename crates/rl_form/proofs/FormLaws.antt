@@ -1,15 +1,18 @@
--- A Spec has its form exactly where its parts are as is asked.
-use Rattle.std.proofs.Common.{◌≡◌, ℕ, ◌≤◌, List, [], ◌++◌, length, map, Bool, Some, Result, Ok, Err, sym, arith}
-use Rattle.std.specs.Prelude.{◌↔◌, IsTrue, IsSome, IfSome, IfOk, slice_get, All}
+-- A Spec is well-formed exactly where its parts are as is asked.
+use Rattle.std.proofs.Common.{◌≡◌, ◌≢◌, ℕ, ◌+◌, ◌≤◌, List, [], ◌∷◌, ◌++◌, length, map, Bool, Option, None, Some, Result, Ok, Err, refl, sym, ap, ◌∙◌, subst, arith}
+use Rattle.std.specs.Prelude.{◌↔◌, IsTrue, IsSome, IfSome, IfOk, slice_get, sum_by, option_to_list, All}
 use Rattle.std.specs.List.{flat_map}
+use Rattle.std.specs.Option.{option_map}
+use Rattle.std.proofs.lemmas.List.Sums.{sum_by-cons}
 use Rattle.rl_types.specs.declared.numbers.ActionId.{ActionId}
-use Rattle.rl_types.specs.declared.numbers.Place.{Place}
 use Rattle.rl_types.specs.declared.numbers.Memory.{Memory}
 use Rattle.rl_run.specs.declared.statements.Statement.{Statement}
-use Rattle.rl_automata.specs.Nodes.{Node}
+use Rattle.rl_automata.specs.Nodes.{Node, node_of}
+use Rattle.rl_automata.specs.Scans.{Pattern}
 use Rattle.rl_automata.specs.Refused.{sets_in, conditions_in}
 use Rattle.rl_arrays.specs.Names.{is_name, is_action_name}
 use Rattle.rl_arrays.specs.Statements.{names_entry}
+use Rattle.rl_model.specs.declared.spec.Pattern as rust_pattern
 use Rattle.rl_model.specs.declared.spec.Root as rust_root
 use Rattle.rl_model.specs.declared.spec.Root.TheVariants as R
 use Rattle.rl_model.specs.declared.spec.Entry as rust_entry
@@ -17,22 +20,60 @@ use Rattle.rl_model.specs.declared.spec.ActionDef.{ActionDef}
 use Rattle.rl_model.specs.declared.spec.Write.{Write}
 use Rattle.rl_model.specs.declared.spec.Spec.{Spec}
 use Rattle.rl_model.specs.Specification as model
-use Rattle.rl_model.specs.Specification.{Root, Plain, Scanner, Action, specification_of, root_of, roots_of, entry_of, action_of, numbered}
-use Rattle.rl_model.specs.Counts.{root_size, root_depth, trees_of, pattern_trees, token_actions, actions_in, turn_actions_in, stamps_in}
+use Rattle.rl_model.specs.Specification.{Root, Action, specification_of, pattern_of, root_of, roots_of, entry_of, action_of, numbered}
+use Rattle.rl_model.specs.Counts.{size_of, depth_of, deepest, root_size, root_depth, trees_of, pattern_trees, token_actions, actions_in, turn_actions_in, stamps_in}
 use Rattle.rl_model.specs.WellFormed.{IsWellFormed, IsNumber, HasNoStatement, HasPlaces, HasPatterns, all_trees, all_statements, all_places, pattern_places, quiet_actions, outer_statements}
 use Rattle.rl_form.specs.declared.scope.Scope.{Scope}
-use Rattle.rl_form.specs.Form.{IsPlain, HasForm}
 use Rattle.rl_model.proofs.CodeLaws.{IsStatement, spec_statements}
-use Rattle.rl_form.specs.Parts.{IsRoot, IsQuiet, IsQuietRoot, IsEntry, IsAction, IsWrite, IsCondition, HasFile, HasParts, scope_of}
+use Rattle.rl_form.specs.Parts.{IsPattern, IsRoot, IsQuiet, HasQuietActions, IsQuietRoot, IsEntry, IsAction, IsWrite, IsCondition, HasFile, HasParts, scope_of}
 use Rattle.rl_form.proofs.Lists.{Each, each_append, each_front, each_behind, each_more, each_map, each_mapped, each_flat, each_of_flat, each_flat_flat, each_of_flat_flat, each_at, each_from, all, each}
-use Rattle.rl_form.proofs.QuietLaws.{quiet_number, number_quiet, turns, quiet_turns}
-use Rattle.rl_form.proofs.TreeLaws.{IsKeySet, IsFewRanges, says, sound}
+use Rattle.rl_form.proofs.QuietLaws.{quiet_number, number_quiet, turns, quiet_turns, embedded, quiet_embedded, turns_embedded}
+use Rattle.rl_form.proofs.TreeLaws.{IsKeySet, IsFewRanges, SaysTree, says, sound}
+
+-- ---- patterns
+
+module _ (scope : Scope) where
+  -- what holds of each pattern, of those that the model has
+  of_patterns : (P : Pattern → Type 0) (ps : List rust_pattern.Pattern) → ((p : rust_pattern.Pattern) → IsPattern scope p → P (pattern_of p)) → Each (IsPattern scope) ps → Each P (map pattern_of ps)
+  of_patterns P ps f h = each_map P pattern_of ps (each_more (IsPattern scope) (λ p. P (pattern_of p)) ps f h)
+
+  -- and of their expressions
+  of_pattern_trees : (P : Node → Type 0) (ps : List rust_pattern.Pattern) → ((t : Node) → SaysTree scope t → P t) → Each (IsPattern scope) ps → Each P (map (λ p. p.tree) (map pattern_of ps))
+  of_pattern_trees P ps f h = each_map P (λ p. p.tree) (map pattern_of ps) (of_patterns (λ p. P p.tree) ps (λ p k. f (node_of p.tree) (says scope (node_of p.tree) k.sound)) h)
+
+  not_deep_ones : (ps : List rust_pattern.Pattern) → Each (IsPattern scope) ps → deepest (map pattern_of ps) ≤ 2000
+  not_deep_ones [] h = omega arith
+  not_deep_ones (p ∷ ps) h =
+      let first = h.0.not_deep in
+      let rest = not_deep_ones ps h.1 in
+      omega (arith, first, rest)
+
+  tokens_of : (o : Option ActionId) → IfSome o (λ (a : ActionId). IsNumber scope.actions a.0) → Each (IsNumber scope.actions) (option_to_list (option_map (λ (a : ActionId). a.0) o))
+  tokens_of None h = tt
+  tokens_of (Some a) h = (h, tt)
+
+  of_tokens : (o : Option ActionId) → Each (IsNumber scope.actions) (option_to_list (option_map (λ (a : ActionId). a.0) o)) → IfSome o (λ (a : ActionId). IsNumber scope.actions a.0)
+  of_tokens None h = tt
+  of_tokens (Some a) h = h.0
+
+-- the nodes of patterns are those of their expressions
+sizes_of : (ps : List rust_pattern.Pattern) → sum_by (λ (p : Pattern). size_of p.tree) (map pattern_of ps) ≡ sum_by (λ (p : rust_pattern.Pattern). size_of (node_of p.tree)) ps
+sizes_of [] = refl
+sizes_of (p ∷ ps) =
+    sum_by-cons (λ (p : Pattern). size_of p.tree) (pattern_of p) (map pattern_of ps)
+    ∙ (ap (λ n. size_of (node_of p.tree) + n) (sizes_of ps) ∙ sym (sum_by-cons (λ (p : rust_pattern.Pattern). size_of (node_of p.tree)) p ps))
+
+no_model_pattern : (ps : List rust_pattern.Pattern) → ps ≢ [] → map pattern_of ps ≢ []
+no_model_pattern [] n e = n refl
+no_model_pattern (p ∷ ps) n e = absurd (cc)
+
+no_pattern : (ps : List rust_pattern.Pattern) → map pattern_of ps ≢ [] → ps ≢ []
+no_pattern ps n e = n (ap (map pattern_of) e)
 
 -- ---- entries
 
 -- what is asked of an entry's expression, by the words of the Spec
 pub record SaysRoot (scope : Scope) (x : Root) : Type 0 where
-  pub plain : IsPlain x
   pub nodes : root_size x ≤ 100000
   pub not_deep : root_depth x ≤ 2000
   pub patterns : HasPatterns x
@@ -43,12 +84,16 @@ pub record SaysRoot (scope : Scope) (x : Root) : Type 0 where
   pub keys : Each (λ t. Each (IsKeySet scope) (sets_in t)) (trees_of x)
   pub ranges : Each (λ t. Each IsFewRanges (sets_in t)) (trees_of x)
 
-says_root : (scope : Scope) (n : ℕ) (x : Root) → n ≤ 100000 → IsRoot scope n x → SaysRoot scope x
-says_root scope n (Plain t) few h =
-    let p = says scope t h.sound in
+-- an entry's expression has as many nodes as it has places
+size_of_root : (scope : Scope) (n : ℕ) (x : rust_root.Root) → IsRoot scope n x → n ≡ root_size (root_of x)
+size_of_root scope n (R.Plain t) h = sym h.nodes
+size_of_root scope n (R.Scanner ps) h = sym h.nodes ∙ sym (ap (λ n. n + 1) (sizes_of ps))
+
+says_root : (scope : Scope) (n : ℕ) (x : rust_root.Root) → n ≤ 100000 → IsRoot scope n x → SaysRoot scope (root_of x)
+says_root scope n (R.Plain t) few h =
+    let p = says scope (node_of t) h.sound in
     let size = h.nodes in
     record {
-      plain = tt;
       nodes = omega (arith, size, few);
       not_deep = h.not_deep;
       patterns = tt;
@@ -59,40 +104,92 @@ says_root scope n (Plain t) few h =
       keys = (p.keys, tt);
       ranges = (p.ranges, tt);
     }
-says_root scope n (Scanner ps) few h = absurd h
+says_root scope n (R.Scanner ps) few h =
+    let size : n ≡ root_size (root_of (R.Scanner ps)) = size_of_root scope n (R.Scanner ps) h in
+    let each_one = each (IsPattern scope) ps h.patterns in
+    record {
+      nodes = subst (λ m. m ≤ 100000) size few;
+      not_deep = not_deep_ones scope ps each_one;
+      patterns = no_model_pattern ps h.some_pattern;
+      actions = of_pattern_trees scope (λ t. Each (IsNumber scope.actions) (actions_in t)) ps (λ t p. p.actions) each_one;
+      tokens = each_flat (IsNumber scope.actions) (λ (p : Pattern). option_to_list p.token) (map pattern_of ps)
+          (of_patterns scope (λ (p : Pattern). Each (IsNumber scope.actions) (option_to_list p.token)) ps (λ p k. tokens_of scope p.token k.token) each_one);
+      conditions = of_pattern_trees scope (λ t. Each (IsNumber scope.conditions) (conditions_in t)) ps (λ t p. p.conditions) each_one;
+      stamps = of_pattern_trees scope (λ t. Each (IsNumber 100000) (stamps_in t)) ps (λ t p. p.stamps) each_one;
+      keys = of_pattern_trees scope (λ t. Each (IsKeySet scope) (sets_in t)) ps (λ t p. p.keys) each_one;
+      ranges = of_pattern_trees scope (λ t. Each IsFewRanges (sets_in t)) ps (λ t p. p.ranges) each_one;
+    }
 
-root_says : (scope : Scope) (n : ℕ) (x : Root) → n ≡ root_size x → SaysRoot scope x → IsRoot scope n x
-root_says scope n (Plain t) size h = record {
+-- patterns, by the words of the Spec
+patterns_say : (scope : Scope) (ps : List rust_pattern.Pattern)
+    → deepest (map pattern_of ps) ≤ 2000
+    → Each (λ t. Each (IsNumber scope.actions) (actions_in t)) (map (λ (p : Pattern). p.tree) (map pattern_of ps))
+    → Each (IsNumber scope.actions) (flat_map (λ (p : Pattern). option_to_list p.token) (map pattern_of ps))
+    → Each (λ t. Each (IsNumber scope.conditions) (conditions_in t)) (map (λ (p : Pattern). p.tree) (map pattern_of ps))
+    → Each (λ t. Each (IsNumber 100000) (stamps_in t)) (map (λ (p : Pattern). p.tree) (map pattern_of ps))
+    → Each (λ t. Each (IsKeySet scope) (sets_in t)) (map (λ (p : Pattern). p.tree) (map pattern_of ps))
+    → Each (λ t. Each IsFewRanges (sets_in t)) (map (λ (p : Pattern). p.tree) (map pattern_of ps))
+    → Each (HasFile scope.files) (map (λ (p : rust_pattern.Pattern). p.place) ps)
+    → Each (IsPattern scope) ps
+patterns_say scope [] deep xs ts cs ss ks rs fs = tt
+patterns_say scope (p ∷ ps) deep xs ts cs ss ks rs fs =
+    let own = option_to_list (pattern_of p).token in
+    let others = flat_map (λ (p : Pattern). option_to_list p.token) (map pattern_of ps) in
+    let first : depth_of (node_of p.tree) ≤ 2000 = omega (arith, deep) in
+    let rest : deepest (map pattern_of ps) ≤ 2000 = omega (arith, deep) in (
+      record {
+        not_deep = first;
+        sound = sound scope (node_of p.tree) (record { actions = xs.0; conditions = cs.0; stamps = ss.0; keys = ks.0; ranges = rs.0 });
+        token = of_tokens scope p.token (each_front (IsNumber scope.actions) own others ts);
+        place = fs.0;
+      },
+      patterns_say scope ps rest xs.1 (each_behind (IsNumber scope.actions) own others ts) cs.1 ss.1 ks.1 rs.1 fs.1,
+    )
+
+pub root_says : (scope : Scope) (n : ℕ) (x : rust_root.Root) → n ≡ root_size (root_of x) → SaysRoot scope (root_of x) → Each (HasFile scope.files) (pattern_places x) → IsRoot scope n x
+root_says scope n (R.Plain t) size h files = record {
   not_deep = h.not_deep;
   nodes = sym size;
-  sound = sound scope t (record { actions = h.actions.0; conditions = h.conditions.0; stamps = h.stamps.0; keys = h.keys.0; ranges = h.ranges.0 });
+  sound = sound scope (node_of t) (record { actions = h.actions.0; conditions = h.conditions.0; stamps = h.stamps.0; keys = h.keys.0; ranges = h.ranges.0 });
 }
-root_says scope n (Scanner ps) size h = absurd h.plain
+root_says scope n (R.Scanner ps) size h files = record {
+  some_pattern = no_pattern ps h.patterns;
+  nodes = sym (size ∙ ap (λ n. n + 1) (sizes_of ps));
+  patterns = all (IsPattern scope) ps (patterns_say scope ps h.not_deep h.actions h.tokens h.conditions h.stamps h.keys h.ranges files);
+}
 
--- an entry's expression has as many nodes as it has places
-size_of_root : (scope : Scope) (n : ℕ) (x : Root) → IsRoot scope n x → n ≡ root_size x
-size_of_root scope n (Plain t) h = sym h.nodes
-size_of_root scope n (Scanner ps) h = absurd h
-
-entry_places : (scope : Scope) (n : ℕ) (places : List Place) (root : rust_root.Root) → IsRoot scope n (root_of root) → Each (HasFile scope.files) places → Each (HasFile scope.files) (places ++ pattern_places root)
-entry_places scope n places (R.Plain t) h p = each_append (HasFile scope.files) places [] p tt
-entry_places scope n places (R.Scanner ps) h p = absurd h
+root_places : (scope : Scope) (n : ℕ) (root : rust_root.Root) → IsRoot scope n root → Each (HasFile scope.files) (pattern_places root)
+root_places scope n (R.Plain t) h = tt
+root_places scope n (R.Scanner ps) h =
+    each_map (HasFile scope.files) (λ (p : rust_pattern.Pattern). p.place) ps (each_more (IsPattern scope) (λ p. HasFile scope.files p.place) ps (λ p k. k.place) (each (IsPattern scope) ps h.patterns))
 
 -- ---- statements
 
--- an expression is no scanner, and has no pattern
-no_patterns : (P : ℕ → Type 0) (x : Root) → IsPlain x → Each (λ t. Each P (actions_in t)) (pattern_trees x)
-no_patterns P (Plain t) h = tt
-no_patterns P (Scanner ps) h = absurd h
+abbrev IsQuietPattern : List ActionDef → rust_pattern.Pattern → Type 0
+IsQuietPattern actions p = HasQuietActions actions (node_of p.tree)
+
+-- what holds of the expressions of quiet patterns
+of_quiet : (actions : List ActionDef) (P : Node → Type 0) (ps : List rust_pattern.Pattern) → ((t : Node) → HasQuietActions actions t → P t) → All (IsQuietPattern actions) ps → Each P (map (λ (p : Pattern). p.tree) (map pattern_of ps))
+of_quiet actions P ps f h =
+    each_map P (λ (p : Pattern). p.tree) (map pattern_of ps)
+    (each_map (λ (p : Pattern). P p.tree) pattern_of ps (each_more (IsQuietPattern actions) (λ p. P (node_of p.tree)) ps (λ p k. f (node_of p.tree) k) (each (IsQuietPattern actions) ps h)))
+
+-- the actions in its patterns
+root_patterns : (actions : List ActionDef) (x : rust_root.Root) → IsQuietRoot actions x → Each (λ t. Each (HasNoStatement (map action_of actions)) (actions_in t)) (pattern_trees (root_of x))
+root_patterns actions (R.Plain t) h = tt
+root_patterns actions (R.Scanner ps) h = of_quiet actions (λ t. Each (HasNoStatement (map action_of actions)) (actions_in t)) ps (embedded actions) h
 
 -- its to-state and from-state actions
-root_turns : (actions : List ActionDef) (x : Root) → IsQuietRoot actions x → Each (λ t. Each (HasNoStatement (map action_of actions)) (turn_actions_in t)) (trees_of x)
-root_turns actions (Plain t) h = (turns actions t h, tt)
-root_turns actions (Scanner ps) h = absurd h
+root_turns : (actions : List ActionDef) (x : rust_root.Root) → IsQuietRoot actions x → Each (λ t. Each (HasNoStatement (map action_of actions)) (turn_actions_in t)) (trees_of (root_of x))
+root_turns actions (R.Plain t) h = (turns actions (node_of t) h, tt)
+root_turns actions (R.Scanner ps) h = of_quiet actions (λ t. Each (HasNoStatement (map action_of actions)) (turn_actions_in t)) ps (turns_embedded actions) h
 
-turns_root : (actions : List ActionDef) (x : Root) → IsPlain x → Each (λ t. Each (HasNoStatement (map action_of actions)) (turn_actions_in t)) (trees_of x) → IsQuietRoot actions x
-turns_root actions (Plain t) plain h = quiet_turns actions t h.0
-turns_root actions (Scanner ps) plain h = absurd plain
+pub turns_root : (actions : List ActionDef) (x : rust_root.Root) → Each (λ t. Each (HasNoStatement (map action_of actions)) (turn_actions_in t)) (trees_of (root_of x)) → Each (λ t. Each (HasNoStatement (map action_of actions)) (actions_in t)) (pattern_trees (root_of x)) → IsQuietRoot actions x
+turns_root actions (R.Plain t) h k = quiet_turns actions (node_of t) h.0
+turns_root actions (R.Scanner ps) h k =
+    let Q : Node → Type 0 = λ t. Each (HasNoStatement (map action_of actions)) (actions_in t) in
+    all (IsQuietPattern actions) ps (each_more (λ (p : rust_pattern.Pattern). Q (node_of p.tree)) (IsQuietPattern actions) ps (λ p q. quiet_embedded actions (node_of p.tree) q)
+    (each_mapped (λ (p : Pattern). Q p.tree) pattern_of ps (each_mapped Q (λ (p : Pattern). p.tree) (map pattern_of ps) k)))
 
 -- ---- from the parts to the Spec
 
@@ -128,7 +225,7 @@ module _ (spec : Spec) where
     of_actions P f = each_more (IsAction (length spec.files)) P spec.actions f actions
 
     roots : Each (SaysRoot scope) (roots_of (specification_of spec))
-    roots = of_roots (SaysRoot scope) (of_entries (λ e. SaysRoot scope (root_of e.root)) (λ e h. says_root scope (length e.places) (root_of e.root) h.few h.root))
+    roots = of_roots (SaysRoot scope) (of_entries (λ e. SaysRoot scope (root_of e.root)) (λ e h. says_root scope (length e.places) e.root h.few h.root))
 
     from_roots : (P : Root → Type 0) → ((x : Root) → SaysRoot scope x → P x) → Each P (roots_of (specification_of spec))
     from_roots P f = each_more (SaysRoot scope) P (roots_of (specification_of spec)) f roots
@@ -148,13 +245,16 @@ module _ (spec : Spec) where
     quiet_conditions = each_map Quiet (λ (a : ActionId). a.0) spec.conds
         (each_more (λ (a : ActionId). IsQuiet spec.actions a.0) (λ (a : ActionId). Quiet a.0) spec.conds (λ a h. quiet_number spec.actions a.0 h) (each (λ (a : ActionId). IsQuiet spec.actions a.0) spec.conds parts.quiet.conditions))
 
+    -- what holds of quiet roots, of the expressions of the specification
+    from_quiet : (P : Root → Type 0) → ((x : rust_root.Root) → IsQuietRoot spec.actions x → P (root_of x)) → Each P (roots_of (specification_of spec))
+    from_quiet P f = of_roots P (each_more (λ (e : rust_entry.Entry). IsQuietRoot spec.actions e.root) (λ (e : rust_entry.Entry). P (root_of e.root)) spec.entries
+        (λ e h. f e.root h) (each (λ (e : rust_entry.Entry). IsQuietRoot spec.actions e.root) spec.entries parts.quiet.roots))
+
     quiet_in_turns : Each Quiet (flat_map turn_actions_in (all_trees (specification_of spec)))
-    quiet_in_turns = of_trees Quiet turn_actions_in (of_roots (λ x. Each (λ t. Each Quiet (turn_actions_in t)) (trees_of x))
-        (each_more (λ (e : rust_entry.Entry). IsQuietRoot spec.actions (root_of e.root)) (λ (e : rust_entry.Entry). Each (λ t. Each Quiet (turn_actions_in t)) (trees_of (root_of e.root))) spec.entries
-        (λ e h. root_turns spec.actions (root_of e.root) h) (each (λ (e : rust_entry.Entry). IsQuietRoot spec.actions (root_of e.root)) spec.entries parts.quiet.turns)))
+    quiet_in_turns = of_trees Quiet turn_actions_in (from_quiet (λ x. Each (λ t. Each Quiet (turn_actions_in t)) (trees_of x)) (root_turns spec.actions))
 
     quiet_in_patterns : Each Quiet (flat_map actions_in (flat_map pattern_trees (roots_of (specification_of spec))))
-    quiet_in_patterns = each_flat_flat Quiet actions_in pattern_trees (roots_of (specification_of spec)) (from_roots (λ x. Each (λ t. Each Quiet (actions_in t)) (pattern_trees x)) (λ x h. no_patterns Quiet x h.plain))
+    quiet_in_patterns = each_flat_flat Quiet actions_in pattern_trees (roots_of (specification_of spec)) (from_quiet (λ x. Each (λ t. Each Quiet (actions_in t)) (pattern_trees x)) (root_patterns spec.actions))
 
     all_quiet : Each Quiet (quiet_actions (specification_of spec))
     all_quiet = each_append Quiet (map (λ (a : ActionId). a.0) spec.conds ++ flat_map turn_actions_in (all_trees (specification_of spec))) (flat_map actions_in (flat_map pattern_trees (roots_of (specification_of spec)))) (each_append Quiet (map (λ (a : ActionId). a.0) spec.conds) (flat_map turn_actions_in (all_trees (specification_of spec))) quiet_conditions quiet_in_turns) quiet_in_patterns
@@ -166,7 +266,7 @@ module _ (spec : Spec) where
     numbers_of_actions = each_append (IsNumber (length spec.actions)) (flat_map actions_in (all_trees (specification_of spec))) (flat_map token_actions (roots_of (specification_of spec))) (of_trees (IsNumber (length spec.actions)) actions_in (from_roots (λ x. Each (λ t. Each (IsNumber (length spec.actions)) (actions_in t)) (trees_of x)) (λ x h. h.actions))) (each_flat (IsNumber (length spec.actions)) token_actions (roots_of (specification_of spec)) (from_roots (λ x. Each (IsNumber (length spec.actions)) (token_actions x)) (λ x h. h.tokens)))
 
     entries_files : Each (HasFile (length spec.files)) (flat_map (λ (e : rust_entry.Entry). e.places ++ pattern_places e.root) spec.entries)
-    entries_files = each_flat (HasFile (length spec.files)) (λ (e : rust_entry.Entry). e.places ++ pattern_places e.root) spec.entries (of_entries (λ e. Each (HasFile (length spec.files)) (e.places ++ pattern_places e.root)) (λ e h. entry_places scope (length e.places) e.places e.root h.root (each (HasFile (length spec.files)) e.places h.places)))
+    entries_files = each_flat (HasFile (length spec.files)) (λ (e : rust_entry.Entry). e.places ++ pattern_places e.root) spec.entries (of_entries (λ e. Each (HasFile (length spec.files)) (e.places ++ pattern_places e.root)) (λ e h. each_append (HasFile (length spec.files)) e.places (pattern_places e.root) (each (HasFile (length spec.files)) e.places h.places) (root_places scope (length e.places) e.root h.root)))
 
     actions_files : Each (HasFile (length spec.files)) (map (λ (a : ActionDef). a.place) spec.actions)
     actions_files = each_map (HasFile (length spec.files)) (λ (a : ActionDef). a.place) spec.actions (of_actions (λ a. HasFile (length spec.files) a.place) (λ a h. h.place))
@@ -177,8 +277,8 @@ module _ (spec : Spec) where
     files : Each (HasFile (length spec.files)) (all_places spec)
     files = each_append (HasFile (length spec.files)) (flat_map (λ (e : rust_entry.Entry). e.places ++ pattern_places e.root) spec.entries ++ map (λ (a : ActionDef). a.place) spec.actions) (map (λ (w : Write). w.place) spec.writes) (each_append (HasFile (length spec.files)) (flat_map (λ (e : rust_entry.Entry). e.places ++ pattern_places e.root) spec.entries) (map (λ (a : ActionDef). a.place) spec.actions) entries_files actions_files) writes_files
 
-    well_formed : IsWellFormed spec
-    well_formed = record {
+    pub form_of_parts : IsWellFormed spec
+    form_of_parts = record {
       some_entry = parts.few.some_entry;
       few_entries = parts.few.entries;
       few_actions = parts.few.actions;
@@ -199,7 +299,7 @@ module _ (spec : Spec) where
       few_nodes = all (λ x. root_size x ≤ 100000) (roots_of (specification_of spec)) (from_roots (λ x. root_size x ≤ 100000) (λ x h. h.nodes));
       not_deep = all (λ x. root_depth x ≤ 2000) (roots_of (specification_of spec)) (from_roots (λ x. root_depth x ≤ 2000) (λ x h. h.not_deep));
       stamps = trees (IsNumber 100000) stamps_in (λ x h. h.stamps);
-      places = all HasPlaces spec.entries (of_entries HasPlaces (λ e h. size_of_root scope (length e.places) (root_of e.root) h.root));
+      places = all HasPlaces spec.entries (of_entries HasPlaces (λ e h. size_of_root scope (length e.places) e.root h.root));
       patterns = all HasPatterns (roots_of (specification_of spec)) (from_roots HasPatterns (λ x h. h.patterns));
       codes = parts.codes;
       statement_entries = of_statements (λ s. IsSome s.entry ↔ IsTrue (names_entry s.kind)) (λ s h. h.entry);
@@ -207,21 +307,9 @@ module _ (spec : Spec) where
       quiet = all Quiet (quiet_actions (specification_of spec)) all_quiet;
     }
 
-    pub form_of_parts : HasForm spec
-    form_of_parts = record {
-      well_formed = well_formed;
-      plain = all (λ (e : rust_entry.Entry). IsPlain (root_of e.root)) spec.entries (to_roots IsPlain (from_roots IsPlain (λ x h. h.plain)));
-    }
-
   -- ---- and back
 
-  module _ (form : HasForm spec) where
-    wf : IsWellFormed spec
-    wf = form.well_formed
-
-    plain_ones : Each (λ (e : rust_entry.Entry). IsPlain (root_of e.root)) spec.entries
-    plain_ones = each (λ (e : rust_entry.Entry). IsPlain (root_of e.root)) spec.entries form.plain
-
+  module _ (wf : IsWellFormed spec) where
     back_actions : All (IsNumber (length spec.actions)) (flat_map actions_in (all_trees (specification_of spec)))
     back_actions = all (IsNumber (length spec.actions)) (flat_map actions_in (all_trees (specification_of spec))) (each_front (IsNumber (length spec.actions)) (flat_map actions_in (all_trees (specification_of spec))) (flat_map token_actions (roots_of (specification_of spec))) (each (IsNumber (length spec.actions)) (flat_map actions_in (all_trees (specification_of spec)) ++ flat_map token_actions (roots_of (specification_of spec))) wf.actions_exist))
 
@@ -233,7 +321,6 @@ module _ (spec : Spec) where
 
     root_at : (i : ℕ) (e : rust_entry.Entry) → slice_get spec.entries i ≡ Some e → SaysRoot scope (root_of e.root)
     root_at i e at = record {
-      plain = each_at (λ (e : rust_entry.Entry). IsPlain (root_of e.root)) spec.entries i e at plain_ones;
       nodes = each_at (λ (e : rust_entry.Entry). root_size (root_of e.root) ≤ 100000) spec.entries i e at (back_roots (λ x. root_size x ≤ 100000) wf.few_nodes);
       not_deep = each_at (λ (e : rust_entry.Entry). root_depth (root_of e.root) ≤ 2000) spec.entries i e at (back_roots (λ x. root_depth x ≤ 2000) wf.not_deep);
       patterns = each_at (λ (e : rust_entry.Entry). HasPatterns (root_of e.root)) spec.entries i e at (back_roots HasPatterns wf.patterns);
@@ -259,11 +346,12 @@ module _ (spec : Spec) where
         let size : length e.places ≡ root_size (root_of e.root) = each_at HasPlaces spec.entries i e at (each HasPlaces spec.entries wf.places) in
         let p = root_at i e at in
         let few = p.nodes in
+        let files = each_at (λ (e : rust_entry.Entry). Each (HasFile (length spec.files)) (e.places ++ pattern_places e.root)) spec.entries i e at back_entries_files in
         record {
           name = each_at (λ (e : rust_entry.Entry). IsTrue (is_name e.name)) spec.entries i e at (each (λ (e : rust_entry.Entry). IsTrue (is_name e.name)) spec.entries wf.entry_names);
           few = omega (arith, size, few);
-          root = root_says scope (length e.places) (root_of e.root) size p;
-          places = all (HasFile (length spec.files)) e.places (each_front (HasFile (length spec.files)) e.places (pattern_places e.root) (each_at (λ (e : rust_entry.Entry). Each (HasFile (length spec.files)) (e.places ++ pattern_places e.root)) spec.entries i e at back_entries_files));
+          root = root_says scope (length e.places) e.root size p (each_behind (HasFile (length spec.files)) e.places (pattern_places e.root) files);
+          places = all (HasFile (length spec.files)) e.places (each_front (HasFile (length spec.files)) e.places (pattern_places e.root) files);
         }
 
     abbrev NoStatement : ℕ → Type 0
@@ -283,9 +371,14 @@ module _ (spec : Spec) where
     back_in_turns = to_roots (λ x. Each (λ t. Each NoStatement (turn_actions_in t)) (trees_of x))
         (each_of_flat_flat NoStatement turn_actions_in trees_of (roots_of (specification_of spec)) (each_behind NoStatement (map (λ (a : ActionId). a.0) spec.conds) (flat_map turn_actions_in (all_trees (specification_of spec))) back_former))
 
-    quiet_root_at : (i : ℕ) (e : rust_entry.Entry) → slice_get spec.entries i ≡ Some e → IsQuietRoot spec.actions (root_of e.root)
-    quiet_root_at i e at = turns_root spec.actions (root_of e.root) (each_at (λ (e : rust_entry.Entry). IsPlain (root_of e.root)) spec.entries i e at plain_ones)
+    back_in_patterns : Each (λ (e : rust_entry.Entry). Each (λ t. Each NoStatement (actions_in t)) (pattern_trees (root_of e.root))) spec.entries
+    back_in_patterns = to_roots (λ x. Each (λ t. Each NoStatement (actions_in t)) (pattern_trees x))
+        (each_of_flat_flat NoStatement actions_in pattern_trees (roots_of (specification_of spec)) (each_behind NoStatement (map (λ (a : ActionId). a.0) spec.conds ++ flat_map turn_actions_in (all_trees (specification_of spec))) (flat_map actions_in (flat_map pattern_trees (roots_of (specification_of spec)))) back_quiet))
+
+    quiet_root_at : (i : ℕ) (e : rust_entry.Entry) → slice_get spec.entries i ≡ Some e → IsQuietRoot spec.actions e.root
+    quiet_root_at i e at = turns_root spec.actions e.root
         (each_at (λ (e : rust_entry.Entry). Each (λ t. Each NoStatement (turn_actions_in t)) (trees_of (root_of e.root))) spec.entries i e at back_in_turns)
+        (each_at (λ (e : rust_entry.Entry). Each (λ t. Each NoStatement (actions_in t)) (pattern_trees (root_of e.root))) spec.entries i e at back_in_patterns)
 
     back_actions_files : Each (λ (a : ActionDef). HasFile (length spec.files) a.place) spec.actions
     back_actions_files = each_mapped (HasFile (length spec.files)) (λ (a : ActionDef). a.place) spec.actions (each_behind (HasFile (length spec.files)) (flat_map (λ (e : rust_entry.Entry). e.places ++ pattern_places e.root) spec.entries) (map (λ (a : ActionDef). a.place) spec.actions) former_files)
@@ -312,7 +405,7 @@ module _ (spec : Spec) where
       };
       quiet = record {
         conditions = all (λ (a : ActionId). IsQuiet spec.actions a.0) spec.conds back_conditions;
-        turns = all (λ (e : rust_entry.Entry). IsQuietRoot spec.actions (root_of e.root)) spec.entries (each_from (λ (e : rust_entry.Entry). IsQuietRoot spec.actions (root_of e.root)) spec.entries quiet_root_at);
+        roots = all (λ (e : rust_entry.Entry). IsQuietRoot spec.actions e.root) spec.entries (each_from (λ (e : rust_entry.Entry). IsQuietRoot spec.actions e.root) spec.entries quiet_root_at);
       };
       apart = record { entries = wf.entries_differ; actions = wf.actions_differ; conditions = wf.conditions_differ };
       codes = wf.codes;
@@ -320,6 +413,6 @@ module _ (spec : Spec) where
 
 -- ---- an answer
 
-pub form_of_answer : (spec : Spec) (r : Result Bool Memory) → IfOk r (λ b. IsTrue b ↔ HasParts spec) → IfOk r (λ b. IsTrue b ↔ HasForm spec)
+pub form_of_answer : (spec : Spec) (r : Result Bool Memory) → IfOk r (λ b. IsTrue b ↔ HasParts spec) → IfOk r (λ b. IsTrue b ↔ IsWellFormed spec)
 form_of_answer spec (Ok b) h = ((λ t. form_of_parts spec (h.0 t)), (λ f. h.1 (parts_of_form spec f)))
 form_of_answer spec (Err e) h = tt

@@ -1,5 +1,5 @@
 -- What is asked of each part of a Spec.
-use Rattle.std.specs.Prelude.{◌≡◌, ℕ, ◌-◌, ◌<◌, ◌≤◌, IsTrue, IfSome, List, [], map, length, slice_get, All}
+use Rattle.std.specs.Prelude.{◌≡◌, ◌≢◌, ℕ, ◌+◌, ◌-◌, ◌<◌, ◌≤◌, IsTrue, IfSome, List, [], map, length, sum_by, slice_get, All}
 use Rattle.rl_types.specs.declared.numbers.ActionId.{ActionId}
 use Rattle.rl_types.specs.declared.numbers.Place.{Place}
 use Rattle.rl_types.specs.KeyRange.{Range}
@@ -8,14 +8,16 @@ use Rattle.rl_automata.specs.declared.tree.Kind.TheVariants as K
 use Rattle.rl_automata.specs.declared.tree.Label.{Label}
 use Rattle.rl_automata.specs.declared.tree.Label.TheVariants.{Action, Prior}
 use Rattle.rl_automata.specs.Nodes as N
-use Rattle.rl_automata.specs.Nodes.{Node}
+use Rattle.rl_automata.specs.Nodes.{Node, node_of}
 use Rattle.rl_automata.specs.Refused.{AreDifferent}
 use Rattle.rl_arrays.specs.Names.{is_name, is_action_name}
+use Rattle.rl_model.specs.declared.spec.Pattern as rust_pattern
+use Rattle.rl_model.specs.declared.spec.Root as rust_root
+use Rattle.rl_model.specs.declared.spec.Root.TheVariants as R
 use Rattle.rl_model.specs.declared.spec.Entry as rust_entry
 use Rattle.rl_model.specs.declared.spec.ActionDef.{ActionDef}
 use Rattle.rl_model.specs.declared.spec.Write.{Write}
 use Rattle.rl_model.specs.declared.spec.Spec.{Spec}
-use Rattle.rl_model.specs.Specification.{Root, Plain, Scanner, root_of}
 use Rattle.rl_model.specs.Counts.{size_of, depth_of}
 use Rattle.rl_model.specs.WellFormed.{IsNumber, IsInAlphabet, IsCodeRead, outer_statements}
 use Rattle.rl_form.specs.declared.scope.Scope.{Scope}
@@ -60,18 +62,30 @@ pub record IsTree (scope : Scope) (n : ℕ) (t : Node) : Type 0 where
 
 -- ---- an entry, an action, a `write`
 
--- an expression and no scanner
-abbrev pub IsRoot : Scope → ℕ → Root → Type 0
-IsRoot scope n (Plain t) = IsTree scope n t
-IsRoot scope n (Scanner ps) = ⊥
-
 abbrev pub HasFile : ℕ → Place → Type 0
 HasFile files place = place.file < files
+
+-- its expression is not too deep and all of it sound, the action of its token exists, and it stands in one of the files
+pub record IsPattern (scope : Scope) (p : rust_pattern.Pattern) : Type 0 where
+  pub not_deep : depth_of (node_of p.tree) ≤ 2000
+  pub sound : IsSound scope (node_of p.tree)
+  pub token : IfSome p.token (λ (a : ActionId). IsNumber scope.actions a.0)
+  pub place : HasFile scope.files p.place
+
+-- patterns, one at least, that have so many nodes with the scanner itself
+pub record IsScanner (scope : Scope) (n : ℕ) (ps : List rust_pattern.Pattern) : Type 0 where
+  pub some_pattern : ps ≢ []
+  pub nodes : sum_by (λ (p : rust_pattern.Pattern). size_of (node_of p.tree)) ps + 1 ≡ n
+  pub patterns : All (IsPattern scope) ps
+
+abbrev pub IsRoot : Scope → ℕ → rust_root.Root → Type 0
+IsRoot scope n (R.Plain t) = IsTree scope n (node_of t)
+IsRoot scope n (R.Scanner ps) = IsScanner scope n ps
 
 pub record IsEntry (scope : Scope) (e : rust_entry.Entry) : Type 0 where
   pub name : IsTrue (is_name e.name)
   pub few : length e.places ≤ 100000
-  pub root : IsRoot scope (length e.places) (root_of e.root)
+  pub root : IsRoot scope (length e.places) e.root
   pub places : All (HasFile scope.files) e.places
 
 pub record IsAction (files : ℕ) (a : ActionDef) : Type 0 where
@@ -115,10 +129,31 @@ HasQuietTurns actions (N.Leave a l) = HasQuietTurns actions a
 HasQuietTurns actions (N.Mark a class kind s x) = HasQuietMark actions kind x × HasQuietTurns actions a
 HasQuietTurns actions (N.When a c) = HasQuietTurns actions a
 
--- an expression and no scanner, with quiet to-state and from-state actions
-abbrev pub IsQuietRoot : List ActionDef → Root → Type 0
-IsQuietRoot actions (Plain t) = HasQuietTurns actions t
-IsQuietRoot actions (Scanner ps) = ⊥
+abbrev pub HasQuietLabel : List ActionDef → Label → Type 0
+HasQuietLabel actions (Action s x) = IsQuiet actions x.0
+HasQuietLabel actions (Prior s n v) = Unit {0}
+
+-- all actions that it embeds
+abbrev pub HasQuietActions : List ActionDef → Node → Type 0
+HasQuietActions actions (N.Set ranges) = Unit {0}
+HasQuietActions actions N.Null = Unit {0}
+HasQuietActions actions N.Nothing = Unit {0}
+HasQuietActions actions (N.Union a b) = HasQuietActions actions a × HasQuietActions actions b
+HasQuietActions actions (N.And a b) = HasQuietActions actions a × HasQuietActions actions b
+HasQuietActions actions (N.Minus a b) = HasQuietActions actions a × HasQuietActions actions b
+HasQuietActions actions (N.Cat a b) = HasQuietActions actions a × HasQuietActions actions b
+HasQuietActions actions (N.Star a n) = HasQuietActions actions a
+HasQuietActions actions (N.Enter a l) = HasQuietLabel actions l × HasQuietActions actions a
+HasQuietActions actions (N.Finish a l) = HasQuietLabel actions l × HasQuietActions actions a
+HasQuietActions actions (N.All a l) = HasQuietLabel actions l × HasQuietActions actions a
+HasQuietActions actions (N.Leave a l) = HasQuietLabel actions l × HasQuietActions actions a
+HasQuietActions actions (N.Mark a class kind s x) = IsQuiet actions x × HasQuietActions actions a
+HasQuietActions actions (N.When a c) = HasQuietActions actions a
+
+-- the to-state and from-state actions of an expression, and all actions in patterns
+abbrev pub IsQuietRoot : List ActionDef → rust_root.Root → Type 0
+IsQuietRoot actions (R.Plain t) = HasQuietTurns actions (node_of t)
+IsQuietRoot actions (R.Scanner ps) = All (λ (p : rust_pattern.Pattern). HasQuietActions actions (node_of p.tree)) ps
 
 -- ---- a Spec
 
@@ -143,10 +178,10 @@ pub record AreSound (spec : Spec) : Type 0 where
   pub conditions : All (IsCondition (length spec.actions)) spec.conds
   pub writes : All (IsWrite (length spec.files)) spec.writes
 
--- conditions, to-state and from-state actions have no control statements
+-- conditions, to-state and from-state actions and those in patterns have no control statements
 pub record AreQuiet (spec : Spec) : Type 0 where
   pub conditions : All (λ (a : ActionId). IsQuiet spec.actions a.0) spec.conds
-  pub turns : All (λ (e : rust_entry.Entry). IsQuietRoot spec.actions (root_of e.root)) spec.entries
+  pub roots : All (λ (e : rust_entry.Entry). IsQuietRoot spec.actions e.root) spec.entries
 
 pub record HasParts (spec : Spec) : Type 0 where
   pub few : AreFew spec

@@ -1,6 +1,6 @@
 // Whether a Spec has its form.
 ghost use Rattle.std.specs.Prelude.{◌↔◌, IsTrue, IfOk};
-ghost use Rattle.rl_form.specs.Form.{HasForm};
+ghost use Rattle.rl_model.specs.WellFormed.{IsWellFormed};
 ghost use Rattle.rl_form.specs.Parts.{HasParts};
 
 use crate::codes::are_codes_read;
@@ -30,10 +30,9 @@ fn has_parts(alloc: Global, spec: &Spec) -> Result<bool, Memory>
     are_codes_read(alloc, spec)
 }
 
-/// Whether the Spec is well-formed, and no entry of it is a scanner, which is not built yet. The only error is want of
-/// memory.
+/// Whether the Spec is well-formed. The only error is want of memory.
 pub fn has_form(alloc: Global, spec: &Spec) -> Result<bool, Memory>
-    ensures { IfOk result (λ b. IsTrue b ↔ HasForm spec.now) }
+    ensures { IfOk result (λ b. IsTrue b ↔ IsWellFormed spec.now) }
 {
     has_parts(alloc, spec)
 }

@@ -1,4 +1,4 @@
-//! Whether the Spec of a machine is well-formed, and has nothing that is not built yet.
+//! Whether the Spec of a machine is well-formed.
 #![tactic(auto)]
 
 mod codes;
@@ -12,6 +12,3 @@ mod sizes;
 mod statements;
 
 pub use form::has_form;
-
-#[cfg(test)]
-mod tests;

@@ -1,16 +1,17 @@
 // The parts of a Spec, each by itself.
-ghost use Rattle.std.specs.Prelude.{◌≡◌, ◌↔◌, IsTrue, All, length};
+ghost use Rattle.std.specs.Prelude.{◌≡◌, ◌↔◌, IsTrue, IfSome, All, length};
+ghost use Rattle.rl_types.specs.declared.numbers.ActionId as number;
 ghost use Rattle.rl_automata.specs.Nodes.{node_of};
-ghost use Rattle.rl_model.specs.Specification.{root_of};
-ghost use Rattle.rl_form.specs.Parts.{HasFile, IsTree, IsRoot, IsEntry, IsAction, IsWrite, IsCondition, AreFew, AreSound, scope_of};
+ghost use Rattle.rl_model.specs.WellFormed.{IsNumber};
+ghost use Rattle.rl_form.specs.Parts.{HasFile, IsTree, IsPattern, IsScanner, IsRoot, IsEntry, IsAction, IsWrite, IsCondition, AreFew, AreSound, scope_of};
 
 use crate::expressions::{is_number, is_sound};
 use crate::scope::Scope;
-use crate::sizes::{has_nodes, is_within};
+use crate::sizes::{has_nodes, have_nodes, is_within};
 use crate::statements::outer_statements;
 use rl_arrays::{is_action_name, is_name};
 use rl_automata::Tree;
-use rl_model::{ActionDef, Entry, Root, Spec, Write};
+use rl_model::{ActionDef, Entry, Pattern, Root, Spec, Write};
 use rl_types::{ActionId, Place};
 
 fn has_file(files: usize, place: &Place) -> bool
@@ -33,12 +34,45 @@ fn is_tree(scope: &Scope, nodes: usize, t: &Tree) -> bool
     is_within(t, 1999) && has_nodes(t, nodes) && is_sound(scope, t)
 }
 
+// Whether there is no action, or it is one of so many.
+fn is_token(actions: usize, token: Option<ActionId>) -> bool
+    ensures { IsTrue result ↔ IfSome token (λ (a : number.ActionId). IsNumber actions a.0) }
+{
+    match token {
+        Some(action) => is_number(actions, action.0),
+        None => true,
+    }
+}
+
+// Whether the pattern is as is asked. The depth of its expression is looked at first, as with entries.
+fn is_pattern(scope: &Scope, p: &Pattern) -> bool
+    ensures { IsTrue result ↔ IsPattern scope.now p.now }
+{
+    is_within(&p.tree, 1999)
+        && is_sound(scope, &p.tree)
+        && is_token(scope.actions, p.token)
+        && has_file(scope.files, &p.place)
+}
+
+fn are_patterns(scope: &Scope, patterns: &[Pattern]) -> bool
+    ensures { IsTrue result ↔ All (IsPattern scope.now) patterns.now }
+{
+    patterns.iter().all(|p| is_pattern(scope, p))
+}
+
+// Whether there are patterns, each as is asked, with so many nodes, the scanner's own among them.
+fn is_scanner(scope: &Scope, nodes: usize, patterns: &[Pattern]) -> bool
+    ensures { IsTrue result ↔ IsScanner scope.now nodes patterns.now }
+{
+    !patterns.is_empty() && are_patterns(scope, patterns) && have_nodes(patterns, nodes)
+}
+
 fn is_root(scope: &Scope, nodes: usize, root: &Root) -> bool
-    ensures { IsTrue result ↔ IsRoot scope.now nodes (root_of root.now) }
+    ensures { IsTrue result ↔ IsRoot scope.now nodes root.now }
 {
     match root {
         Root::Plain(t) => is_tree(scope, nodes, t),
-        Root::Scanner(_) => false,
+        Root::Scanner(patterns) => is_scanner(scope, nodes, patterns.as_slice()),
     }
 }
 

@@ -1,9 +1,11 @@
 // The nodes of expressions, and their levels.
-ghost use Rattle.std.specs.Prelude.{◌≡◌, ◌<◌, ◌≤◌, ◌+◌, ◌↔◌, IsTrue, MatchOption};
+ghost use Rattle.std.specs.Prelude.{◌≡◌, ◌<◌, ◌≤◌, ◌+◌, ◌↔◌, IsTrue, MatchOption, sum_by};
 ghost use Rattle.rl_automata.specs.Nodes.{node_of};
+ghost use Rattle.rl_model.specs.declared.spec.Pattern as pattern;
 ghost use Rattle.rl_model.specs.Counts.{size_of, depth_of};
 
 use rl_automata::Tree;
+use rl_model::Pattern;
 
 // Whether the expression has no more than so many levels below its root.
 #[tactic(auto, using(crate::proofs::Levels::some_level))]
@@ -56,6 +58,27 @@ pub(crate) fn has_nodes(t: &Tree, nodes: usize) -> bool
 {
     match left_by(t, nodes) {
         Some(left) => left == 0,
+        None => false,
+    }
+}
+
+// What is left of a number of nodes behind those of all patterns; None where they have more.
+fn left_by_all(patterns: &[Pattern], nodes: usize) -> Option<usize>
+    ensures { MatchOption result (nodes < sum_by (λ (p : pattern.Pattern). size_of (node_of p.tree)) patterns.now) (λ left. left + sum_by (λ (p : pattern.Pattern). size_of (node_of p.tree)) patterns.now ≡ nodes) }
+{
+    let mut left = nodes;
+    for p in patterns {
+        left = left_by(&p.tree, left)?;
+    }
+    Some(left)
+}
+
+// Whether the patterns have exactly so many nodes with the one of their scanner.
+pub(crate) fn have_nodes(patterns: &[Pattern], nodes: usize) -> bool
+    ensures { IsTrue result ↔ (sum_by (λ (p : pattern.Pattern). size_of (node_of p.tree)) patterns.now + 1 ≡ nodes) }
+{
+    match left_by_all(patterns, nodes) {
+        Some(left) => left == 1,
         None => false,
     }
 }

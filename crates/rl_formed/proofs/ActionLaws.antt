@@ -7,7 +7,7 @@ use Rattle.rl_model.specs.declared.spec.ActionDef.{ActionDef}
 use Rattle.rl_grammar.specs.declared.step.Step.{Step}
 use Rattle.rl_names.specs.Actions.{anonymous_name, action_def, action_used, actions_by, actions_behind, actions_of}
 use Rattle.rl_names.specs.Entries.{entries_of}
-use Rattle.rl_names.specs.Events.{Event, union_events}
+use Rattle.rl_names.specs.Events.{Event, value_events}
 use Rattle.rl_names.specs.Events as event
 use Rattle.rl_names.specs.Frames.{is_of}
 use Rattle.rl_form.proofs.Lists.{Each, each_append}
@@ -21,7 +21,7 @@ module _ (P : ActionDef → Type 0) (entries : List (List ℕ)) where
   -- it holds of the actions that a statement defines
   abbrev pub HoldsOfStatement : Statement → Type 0
   HoldsOfStatement (statement.Action a) = P (action_def entries a.name.text a.code)
-  HoldsOfStatement (statement.Definition d) = Each HoldsOfEvent (union_events d.value)
+  HoldsOfStatement (statement.Definition d) = Each HoldsOfEvent (value_events d.value)
   HoldsOfStatement _ = Unit {0}
 
   by_event : (e : Event) (actions : List ActionDef) → HoldsOfEvent e → Each P actions → Each P (action_used entries actions e)
@@ -31,7 +31,10 @@ module _ (P : ActionDef → Type 0) (entries : List (List ℕ)) where
   by_event (event.Action w) actions p h = h
   by_event (event.Priority w) actions p h = h
   by_event (event.Quiet place a) actions p h = h
-  by_event (event.Scan place) actions p h = h
+  by_event (event.Embeds a) actions p h = h
+  by_event (event.Ends place) actions p h = h
+  by_event (event.Barred place) actions p h = h
+  by_event (event.Taken place w) actions p h = h
 
   by_events : (es : List Event) (actions : List ActionDef) → Each HoldsOfEvent es → Each P actions → Each P (fold (action_used entries) actions es)
   by_events [] actions p h = h
@@ -39,7 +42,7 @@ module _ (P : ActionDef → Type 0) (entries : List (List ℕ)) where
 
   by_statement : (s : Statement) (actions : List ActionDef) → HoldsOfStatement s → Each P actions → Each P (actions_by entries actions s)
   by_statement (statement.Action a) actions p h = each_append P actions (action_def entries a.name.text a.code ∷ []) h (p, tt)
-  by_statement (statement.Definition d) actions p h = by_events (union_events d.value) actions p h
+  by_statement (statement.Definition d) actions p h = by_events (value_events d.value) actions p h
   by_statement (statement.Machine m) actions p h = h
   by_statement (statement.Include m) actions p h = h
   by_statement (statement.Alphtype m) actions p h = h

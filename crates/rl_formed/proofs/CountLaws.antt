@@ -19,7 +19,7 @@ use Rattle.rl_names.specs.Codes.{code_fault}
 use Rattle.rl_names.specs.Drafts.{scope_behind, definition_read, definition_behind, definitions_by, definitions_behind, definitions_of}
 use Rattle.rl_names.specs.Drafts as drafts
 use Rattle.rl_names.specs.Entries.{entries_of}
-use Rattle.rl_names.specs.Events.{Event, Found, union_events}
+use Rattle.rl_names.specs.Events.{Event, Found, value_events}
 use Rattle.rl_names.specs.Events as event
 use Rattle.rl_names.specs.Expressions.{Scope}
 use Rattle.rl_names.specs.Frames.{is_of}
@@ -49,13 +49,16 @@ uses_count k machine n (event.Name w ∷ es) h e = let m : n + 0 ≤ 65535 = ome
 uses_count k machine n (event.Action w ∷ es) h e = let m : n + 0 ≤ 65535 = omega (arith, h) in omega (arith, uses_count k machine (n + 0) es m (or_none (use_fault k machine n (event.Action w)) (uses_fault k machine (n + 0) es) e).1)
 uses_count k machine n (event.Priority w ∷ es) h e = let m : n + 0 ≤ 65535 = omega (arith, h) in omega (arith, uses_count k machine (n + 0) es m (or_none (use_fault k machine n (event.Priority w)) (uses_fault k machine (n + 0) es) e).1)
 uses_count k machine n (event.Quiet place a ∷ es) h e = let m : n + 0 ≤ 65535 = omega (arith, h) in omega (arith, uses_count k machine (n + 0) es m (or_none (use_fault k machine n (event.Quiet place a)) (uses_fault k machine (n + 0) es) e).1)
-uses_count k machine n (event.Scan place ∷ es) h e = let m : n + 0 ≤ 65535 = omega (arith, h) in omega (arith, uses_count k machine (n + 0) es m (or_none (use_fault k machine n (event.Scan place)) (uses_fault k machine (n + 0) es) e).1)
+uses_count k machine n (event.Embeds a ∷ es) h e = let m : n + 0 ≤ 65535 = omega (arith, h) in omega (arith, uses_count k machine (n + 0) es m (or_none (use_fault k machine n (event.Embeds a)) (uses_fault k machine (n + 0) es) e).1)
+uses_count k machine n (event.Ends place ∷ es) h e = let m : n + 0 ≤ 65535 = omega (arith, h) in omega (arith, uses_count k machine (n + 0) es m (or_none (use_fault k machine n (event.Ends place)) (uses_fault k machine (n + 0) es) e).1)
+uses_count k machine n (event.Barred place ∷ es) h e = let m : n + 0 ≤ 65535 = omega (arith, h) in omega (arith, uses_count k machine (n + 0) es m (or_none (use_fault k machine n (event.Barred place)) (uses_fault k machine (n + 0) es) e).1)
+uses_count k machine n (event.Taken place w ∷ es) h e = let m : n + 0 ≤ 65535 = omega (arith, h) in omega (arith, uses_count k machine (n + 0) es m (or_none (use_fault k machine n (event.Taken place w)) (uses_fault k machine (n + 0) es) e).1)
 
 statement_counts : (k : Known) (machine : List ℕ) (n : ℕ) (s : Statement) → n ≤ 65535 → statement_fault k machine n s ≡ None → n + names_by s ≤ 65535
 statement_counts k machine n (statement.Definition d) h e =
     let p = or_none _ _ (or_none (name_fault k machine d.name) _ e).1 in
     let l = counts n d.name.place p.0 in
-    omega (arith, uses_count k machine (n + 1) (union_events d.value) l p.1)
+    omega (arith, uses_count k machine (n + 1) (value_events d.value) l p.1)
 statement_counts k machine n (statement.Action a) h e = counts n a.name.place (or_none (counted n a.name.place) (code_fault a.code) (or_none (action_name_fault k machine a.name) _ e).1).0
 statement_counts k machine n (statement.Machine m) h e = omega (arith, h)
 statement_counts k machine n (statement.Include m) h e = omega (arith, h)
@@ -99,14 +102,17 @@ module _ (machine : List ℕ) where
   one_action entries (event.Action w) actions = omega arith
   one_action entries (event.Priority w) actions = omega arith
   one_action entries (event.Quiet place a) actions = omega arith
-  one_action entries (event.Scan place) actions = omega arith
+  one_action entries (event.Embeds a) actions = omega arith
+  one_action entries (event.Ends place) actions = omega arith
+  one_action entries (event.Barred place) actions = omega arith
+  one_action entries (event.Taken place w) actions = omega arith
 
   event_actions : (entries : List (List ℕ)) (es : Found) (actions : List ActionDef) → length (fold (action_used entries) actions es) ≡ length actions + codes_in es
   event_actions entries [] actions = omega arith
   event_actions entries (e ∷ es) actions = event_actions entries es (action_used entries actions e) ∙ omega (arith, one_action entries e actions)
 
   statement_actions : (entries : List (List ℕ)) (s : Statement) (actions : List ActionDef) → length (actions_by entries actions s) ≤ length actions + names_by s
-  statement_actions entries (statement.Definition d) actions = omega (arith, event_actions entries (union_events d.value) actions)
+  statement_actions entries (statement.Definition d) actions = omega (arith, event_actions entries (value_events d.value) actions)
   statement_actions entries (statement.Action a) actions = let e = length-append actions (action_def entries a.name.text a.code ∷ []) in omega (arith, e)
   statement_actions entries (statement.Machine m) actions = omega arith
   statement_actions entries (statement.Include m) actions = omega arith

@@ -4,7 +4,7 @@ use Rattle.std.specs.Prelude.{All, IsTrue, ◌||◌}
 use Rattle.rl_grammar.specs.declared.syntax.Statement.{Statement}
 use Rattle.rl_grammar.specs.declared.syntax.Statement.TheVariants as statement
 use Rattle.rl_arrays.specs.Names.{is_name, is_place, is_action_name}
-use Rattle.rl_names.specs.Events.{Event, union_events}
+use Rattle.rl_names.specs.Events.{Event, value_events}
 use Rattle.rl_names.specs.Events as event
 use Rattle.rl_names.specs.Frames.{machines_of, writes_of}
 use Rattle.rl_types.specs.declared.numbers.ActionId.{ActionId}
@@ -22,12 +22,10 @@ use Rattle.rl_names.specs.Actions.{actions_of, action_names}
 use Rattle.rl_names.specs.Entries.{entries_of}
 use Rattle.rl_names.specs.Drafts.{definitions_of, scope_of, definitions_with, draft_with, draft_of}
 use Rattle.rl_rewrite.specs.Entries.{Made, meanings, entries, all_conditions}
-use Rattle.rl_rewrite.specs.Plain.{plains}
 use Rattle.rl_form.proofs.Lists.{Each, each_more, all, each}
 use Rattle.rl_formed.specs.Laws as laws
 use Rattle.rl_formed.proofs.ResultLaws.{ok_then, same_ok}
 use Rattle.rl_formed.proofs.ActionLaws.{HoldsOfEvent, HoldsOfStatement, HoldsOfOwn, all_actions}
-use Rattle.rl_formed.proofs.SizeLaws.{IsPlainMade, all_plain}
 use Rattle.rl_formed.proofs.NameLaws.{actions_differ, definitions_differ, entries_differ, fewer_entries}
 use Rattle.rl_formed.proofs.EmbeddedLaws.{EmbedsOwn, own_actions}
 use Rattle.rl_formed.proofs.WrittenLaws.{HoldsOfName, HoldsOfStep, machines_named, all_named}
@@ -65,10 +63,7 @@ pub have_own_entries : laws.OfDrafts laws.HasOwnEntries
 have_own_entries steps machine draft h =
     let r = read steps machine draft h in
     let d = draft_with steps machine (actions_of machine steps) r.definitions in
-    subst laws.HasOwnEntries r.is (entries_differ [] r.definitions (plains d.alphabet r.definitions) (definitions_differ (scope_of r.names machine steps) machine steps r.definitions r.defined))
-
-pub have_plain_entries : laws.OfDrafts laws.HasPlainEntries
-have_plain_entries steps machine draft h = all IsPlainMade (entries [] (meanings draft)) (all_plain [] (meanings draft))
+    subst laws.HasOwnEntries r.is (entries_differ [] d.alphabet r.definitions (definitions_differ (scope_of r.names machine steps) machine steps r.definitions r.defined))
 
 pub have_few_actions : laws.OfNamed laws.HasFewActions
 have_few_actions steps machine draft none h = subst laws.HasFewActions (read steps machine draft h).is (few_actions machine steps none)
@@ -78,7 +73,7 @@ have_few_entries steps machine draft none h =
     let r = read steps machine draft h in
     let d = draft_with steps machine (actions_of machine steps) r.definitions in
     let few = few_definitions machine (scope_of r.names machine steps) steps r.definitions none r.defined in
-    let fewer = fewer_entries [] r.definitions (plains d.alphabet r.definitions) in
+    let fewer = fewer_entries [] d.alphabet r.definitions in
     let whole : laws.HasFewEntries d = omega (arith, few, fewer) in
     subst laws.HasFewEntries r.is whole
 
@@ -133,12 +128,15 @@ used_as_written entries (event.Name w) h = tt
 used_as_written entries (event.Action w) h = tt
 used_as_written entries (event.Priority w) h = tt
 used_as_written entries (event.Quiet place a) h = tt
-used_as_written entries (event.Scan place) h = tt
+used_as_written entries (event.Embeds a) h = tt
+used_as_written entries (event.Ends place) h = tt
+used_as_written entries (event.Barred place) h = tt
+used_as_written entries (event.Taken place w) h = tt
 
 called_as_written : (entries : List (List ℕ)) (s : Statement) → laws.IsWritten s → HoldsOfStatement IsCalled entries s
 called_as_written entries (statement.Action a) h = ap (λ z. z || is_place a.name.text) h.0
 called_as_written entries (statement.Definition d) h =
-    each_more laws.IsUsedAsWritten (HoldsOfEvent IsCalled entries) (union_events d.value) (used_as_written entries) (each laws.IsUsedAsWritten (union_events d.value) h.1)
+    each_more laws.IsUsedAsWritten (HoldsOfEvent IsCalled entries) (value_events d.value) (used_as_written entries) (each laws.IsUsedAsWritten (value_events d.value) h.1)
 called_as_written entries (statement.Machine m) h = tt
 called_as_written entries (statement.Include m) h = tt
 called_as_written entries (statement.Alphtype m) h = tt
@@ -155,7 +153,7 @@ have_named_entries steps machine draft w h =
     let r = read steps machine draft h in
     let d = draft_with steps machine (actions_of machine steps) r.definitions in
     subst laws.HasNamedEntries r.is (all (λ (m : Made). IsNamed m.name) (entries [] (meanings d))
-    (all_named IsNamed (scope_of r.names machine steps) machine steps r.definitions (plains d.alphabet r.definitions) (steps_named steps w) r.defined))
+    (all_named IsNamed (scope_of r.names machine steps) machine steps r.definitions d.alphabet (steps_named steps w) r.defined))
 
 pub have_named_actions : laws.OfWritten laws.HasNamedActions
 have_named_actions steps machine draft w h =

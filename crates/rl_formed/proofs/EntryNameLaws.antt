@@ -1,5 +1,5 @@
 -- The entries that statements instantiate are those that a draft makes.
-use Rattle.std.proofs.Common.{◌≡◌, ℕ, suc, Bool, true, false, cond, List, [], ◌∷◌, ◌++◌, map, length, fold, Result, Ok, refl, sym, ap, ◌∙◌, arith, append_assoc}
+use Rattle.std.proofs.Common.{◌≡◌, ℕ, Bool, true, false, cond, List, [], ◌∷◌, ◌++◌, map, fold, Result, Ok, refl, sym, ap, ◌∙◌, append_assoc}
 use Rattle.std.specs.Prelude.{◌||◌, if◌then◌else◌}
 use Rattle.std.specs.List.{list_any}
 use Rattle.std.specs.Str.{bytes_eq}
@@ -18,8 +18,9 @@ use Rattle.rl_names.specs.Drafts.{sign_of, names_of, value_read, definition_read
 use Rattle.rl_names.specs.Entries.{instantiates, entries_with, entries_by, entries_behind, entries_of}
 use Rattle.rl_names.specs.Expressions.{Scope}
 use Rattle.rl_names.specs.Frames.{is_of, with_name}
-use Rattle.rl_rewrite.specs.Entries.{Made, Meaning, meaning, meanings_of, is_entry, entry, entries, conditions_by}
-use Rattle.rl_rewrite.specs.Plain.{Plain}
+use Rattle.rl_rewrite.specs.Entries.{Made, Meaning, meaning, meanings_behind, meanings_in, is_entry, entry, entries, conditions_by}
+use Rattle.rl_types.specs.declared.alphabet.Alphabet.{Alphabet}
+use Rattle.rl_rewrite.specs.Plain.{Plain, value_of, value_plain}
 use Rattle.rl_formed.proofs.NameLaws.{or_false, read_name}
 use Rattle.rl_formed.proofs.ResultLaws.{ok_then, same_ok, not_refused}
 
@@ -97,12 +98,6 @@ module _ (k : Scope) (machine : List ℕ) where
 
 -- ---- entries as they are made
 
-no_more : (n : ℕ) → 0 ≡ suc n → ⊥
-no_more n h = omega (arith, h)
-
-one_less : (n m : ℕ) → suc n ≡ suc m → n ≡ m
-one_less n m h = omega (arith, h)
-
 abbrev made_names : List Made → List (List ℕ)
 made_names ms = map (λ (m : Made). m.name) ms
 
@@ -110,12 +105,12 @@ made_case : (b : Bool) (cs : List ActionId) (m : Meaning) (rest : List Made) (na
 made_case true cs m rest names h = ap (λ z. m.name ∷ z) h
 made_case false cs m rest names h = h
 
-made : (cs : List ActionId) (ds : List Definition) (ps : List Plain) → length ps ≡ length ds → made_names (entries cs (meanings_of ds ps)) ≡ entry_names ds
-made cs [] ps h = refl
-made cs (d ∷ ds) [] h = absurd (no_more (length ds) h)
-made cs (d ∷ ds) (p ∷ ps) h =
-    let m = meaning d p in
-    made_case (is_entry d.sign) cs m (entries (conditions_by cs m) (meanings_of ds ps)) (entry_names ds) (made (conditions_by cs m) ds ps (one_less (length ps) (length ds) h))
+made : (cs : List ActionId) (alphabet : Alphabet) (known : List Plain) (ds : List Definition) → made_names (entries cs (meanings_behind alphabet known ds)) ≡ entry_names ds
+made cs alphabet known [] = refl
+made cs alphabet known (d ∷ ds) =
+    let m = meaning d (value_of alphabet known d.value) in
+    let behind = known ++ value_plain alphabet known d.value ∷ [] in
+    made_case (is_entry d.sign) cs m (entries (conditions_by cs m) (meanings_behind alphabet behind ds)) (entry_names ds) (made (conditions_by cs m) alphabet behind ds)
 
-pub entries_made : (k : Scope) (machine : List ℕ) (steps : List Step) (ds : List Definition) (ps : List Plain) → definitions_of k machine steps ≡ Ok ds → length ps ≡ length ds → entries_of machine steps ≡ map (λ (m : Made). m.name) (entries [] (meanings_of ds ps))
-entries_made k machine steps ds ps e h = all_behind k machine steps [] ds e ∙ sym (made [] ds ps h)
+pub entries_made : (k : Scope) (machine : List ℕ) (steps : List Step) (ds : List Definition) (alphabet : Alphabet) → definitions_of k machine steps ≡ Ok ds → entries_of machine steps ≡ map (λ (m : Made). m.name) (entries [] (meanings_in alphabet ds))
+entries_made k machine steps ds alphabet e = all_behind k machine steps [] ds e ∙ sym (made [] alphabet [] ds)

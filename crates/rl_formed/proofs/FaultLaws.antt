@@ -4,6 +4,7 @@ use Rattle.std.specs.Prelude.{is_some}
 use Rattle.std.specs.List.{list_any}
 use Rattle.std.specs.Str.{bytes_eq}
 use Rattle.std.proofs.lemmas.Bool.{false≢true}
+use Rattle.std.proofs.lemmas.List.{append-nil}
 use Rattle.std.proofs.lemmas.Slice.Eq.{bytes_eq-Decides}
 use Rattle.rl_types.specs.declared.alphabet.Alphabet.{Alphabet}
 use Rattle.rl_grammar.specs.declared.read_fault.ReadFault.{ReadFault}
@@ -16,7 +17,7 @@ use Rattle.rl_names.specs.Answers.{first_of}
 use Rattle.rl_names.specs.Checks.{leaf_fault, statement_leaf_fault, leaves_fault}
 use Rattle.rl_names.specs.Codes.{code_fault, first_unnamed}
 use Rattle.rl_names.specs.Entries.{entries_of, is_entry}
-use Rattle.rl_names.specs.Events.{Event, Found, union_events, embedding_events, used}
+use Rattle.rl_names.specs.Events.{Event, Found, value_events, embedding_events, used}
 use Rattle.rl_names.specs.Events as event
 use Rattle.rl_names.specs.Frames.{alphabet_of}
 use Rattle.rl_names.specs.Names.{Known, known, said_of, is_code, names_of, unless, counted, steers, use_fault, uses_fault, name_fault, action_name_fault, statement_fault, step_fault, faults_behind, names_fault}
@@ -50,19 +51,22 @@ module _ (k : Known) (machine : List ℕ) where
   right_use n (event.Leaf o) h = tt
   right_use n (event.Name w) h = tt
   right_use n (event.Priority w) h = tt
-  right_use n (event.Scan place) h = tt
+  right_use n (event.Embeds a) h = tt
+  right_use n (event.Ends place) h = tt
+  right_use n (event.Barred place) h = tt
+  right_use n (event.Taken place w) h = tt
 
   right_uses : (n : ℕ) (es : Found) → uses_fault k machine n es ≡ None → Each (IsRightUse k machine) es
   right_uses n [] h = tt
   right_uses n (e ∷ es) h = let p = or_none (use_fault k machine n e) (uses_fault k machine (n + is_code e) es) h in (right_use n e p.0, right_uses (n + is_code e) es p.1)
 
   abbrev pub IsRightStatement : Statement → Type 0
-  IsRightStatement (statement.Definition d) = Each (IsRightUse k machine) (union_events d.value)
+  IsRightStatement (statement.Definition d) = Each (IsRightUse k machine) (value_events d.value)
   IsRightStatement (statement.Action a) = IsRightCode a.code.text
   IsRightStatement _ = Unit {0}
 
   right_statement : (n : ℕ) (s : Statement) → statement_fault k machine n s ≡ None → IsRightStatement s
-  right_statement n (statement.Definition d) h = right_uses (n + 1) (union_events d.value) (or_none (counted n d.name.place) _ (or_none (name_fault k machine d.name) _ h).1).1
+  right_statement n (statement.Definition d) h = right_uses (n + 1) (value_events d.value) (or_none (counted n d.name.place) _ (or_none (name_fault k machine d.name) _ h).1).1
   right_statement n (statement.Action a) h = right_code a.code (or_none (counted n a.name.place) (code_fault a.code) (or_none (action_name_fault k machine a.name) _ h).1).1
   right_statement n (statement.Machine m) h = tt
   right_statement n (statement.Include m) h = tt
@@ -89,6 +93,17 @@ right_behind steps before (s ∷ ss) is h =
 pub right_steps : (steps : List Step) → names_fault steps ≡ None → Each (IsRightStep steps) steps
 right_steps steps h = right_behind steps [] steps refl h
 
+-- of the step that stands behind these
+fault_at : (before ss : List Step) (rest : List Step) (s : Step) → faults_behind before (ss ++ (s ∷ rest)) ≡ None → step_fault (before ++ ss) s ≡ None
+fault_at before [] rest s h = subst (λ z. step_fault z s ≡ None) (sym (append-nil before)) (or_none (step_fault before s) (faults_behind (before ++ s ∷ []) rest) h).0
+fault_at before (x ∷ ss) rest s h =
+    let p = or_none (step_fault before x) (faults_behind (before ++ x ∷ []) (ss ++ (s ∷ rest))) h in
+    subst (λ z. step_fault z s ≡ None) (append_assoc before (x ∷ []) ss) (fault_at (before ++ x ∷ []) ss rest s p.1)
+
+pub right_at : (steps before rest : List Step) (s : Step) → before ++ (s ∷ rest) ≡ steps → names_fault steps ≡ None → IsRightStatement (known before) s.machine s.statement
+right_at steps before rest s is h =
+    right_statement (known before) s.machine (names_of s.machine before) s.statement (fault_at [] before rest s (subst (λ z. faults_behind [] z ≡ None) (sym is) h))
+
 -- ---- codes
 
 module _ (entries : List (List ℕ)) (machine : List ℕ) where
@@ -102,10 +117,13 @@ module _ (entries : List (List ℕ)) (machine : List ℕ) where
   right_event k other (event.Leaf o) h = tt
   right_event k other (event.Name w) h = tt
   right_event k other (event.Priority w) h = tt
-  right_event k other (event.Scan place) h = tt
+  right_event k other (event.Embeds a) h = tt
+  right_event k other (event.Ends place) h = tt
+  right_event k other (event.Barred place) h = tt
+  right_event k other (event.Taken place w) h = tt
 
   right_actions : (k : Known) (other : List ℕ) (s : Statement) → IsRightStatement k other s → HoldsOfStatement HasRightCode entries s
-  right_actions k other (statement.Definition d) h = each_more (IsRightUse k other) (HoldsOfEvent HasRightCode entries) (union_events d.value) (right_event k other) h
+  right_actions k other (statement.Definition d) h = each_more (IsRightUse k other) (HoldsOfEvent HasRightCode entries) (value_events d.value) (right_event k other) h
   right_actions k other (statement.Action a) h = h
   right_actions k other (statement.Machine m) h = tt
   right_actions k other (statement.Include m) h = tt
@@ -138,11 +156,14 @@ module _ (entries : List (List ℕ)) (machine : List ℕ) where
   event_names alphabet (event.Quiet place a) h = tt
   event_names alphabet (event.Name w) h = tt
   event_names alphabet (event.Priority w) h = tt
-  event_names alphabet (event.Scan place) h = tt
+  event_names alphabet (event.Embeds a) h = tt
+  event_names alphabet (event.Ends place) h = tt
+  event_names alphabet (event.Barred place) h = tt
+  event_names alphabet (event.Taken place w) h = tt
 
   statement_names : (alphabet : Alphabet) (s : Statement) → statement_leaf_fault alphabet has s ≡ None → HoldsOfStatement NamesEntries entries s
   statement_names alphabet (statement.Definition d) h =
-      each_more (λ e. leaf_fault alphabet has e ≡ None) (HoldsOfEvent NamesEntries entries) (union_events d.value) (event_names alphabet) (first_none (leaf_fault alphabet has) (union_events d.value) h)
+      each_more (λ e. leaf_fault alphabet has e ≡ None) (HoldsOfEvent NamesEntries entries) (value_events d.value) (event_names alphabet) (first_none (leaf_fault alphabet has) (value_events d.value) h)
   statement_names alphabet (statement.Action a) h = right_names has a.code h
   statement_names alphabet (statement.Machine m) h = tt
   statement_names alphabet (statement.Include m) h = tt

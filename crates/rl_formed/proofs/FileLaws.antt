@@ -8,7 +8,7 @@ use Rattle.rl_model.specs.declared.spec.Write.{Write}
 use Rattle.rl_grammar.specs.declared.step.Step.{Step}
 use Rattle.rl_names.specs.Actions.{actions_of}
 use Rattle.rl_names.specs.Entries.{entries_of}
-use Rattle.rl_names.specs.Events.{Event, union_events}
+use Rattle.rl_names.specs.Events.{Event, value_events}
 use Rattle.rl_names.specs.Events as event
 use Rattle.rl_names.specs.Frames.{is_own, kind_written, write_by, write_behind, writes_of}
 use Rattle.rl_form.proofs.Lists.{Each, each_append, each_more, each}
@@ -34,11 +34,14 @@ module _ (count : ℕ) where
   event_in entries (event.Action w) h = tt
   event_in entries (event.Priority w) h = tt
   event_in entries (event.Quiet place a) h = tt
-  event_in entries (event.Scan place) h = tt
+  event_in entries (event.Embeds a) h = tt
+  event_in entries (event.Ends place) h = tt
+  event_in entries (event.Barred place) h = tt
+  event_in entries (event.Taken place w) h = tt
 
   statement_in : (entries : List (List ℕ)) (s : Statement) → StandsIn count s → HoldsOfStatement IsActionIn entries s
   statement_in entries (statement.Action a) h = h
-  statement_in entries (statement.Definition d) h = each_more (IsUsedIn count) (HoldsOfEvent IsActionIn entries) (union_events d.value) (event_in entries) (each (IsUsedIn count) (union_events d.value) h)
+  statement_in entries (statement.Definition d) h = each_more (IsUsedIn count) (HoldsOfEvent IsActionIn entries) (value_events d.value) (event_in entries) (each (IsUsedIn count) (value_events d.value) h)
   statement_in entries (statement.Machine m) h = tt
   statement_in entries (statement.Include m) h = tt
   statement_in entries (statement.Alphtype m) h = tt

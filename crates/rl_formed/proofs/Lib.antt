@@ -9,6 +9,8 @@ pub mod ReadLaws
 pub mod PlainLaws
 pub mod EmbeddedLaws
 pub mod TurnLaws
+pub mod PatternLaws
+pub mod FitLaws
 pub mod CodeLaws
 pub mod FaultLaws
 pub mod QuietLaws

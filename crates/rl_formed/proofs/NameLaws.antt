@@ -21,8 +21,9 @@ use Rattle.rl_names.specs.Answers.{along}
 use Rattle.rl_names.specs.Drafts.{names_of, scope_behind, value_read, definition_read, definition_behind, definitions_by, definitions_behind, definitions_of}
 use Rattle.rl_names.specs.Expressions.{Scope}
 use Rattle.rl_names.specs.Frames.{is_of}
-use Rattle.rl_rewrite.specs.Plain.{Plain}
-use Rattle.rl_rewrite.specs.Entries.{Made, Meaning, meanings_of, is_entry, entry, entries, conditions_by}
+use Rattle.rl_types.specs.declared.alphabet.Alphabet.{Alphabet}
+use Rattle.rl_rewrite.specs.Plain.{Plain, value_plain}
+use Rattle.rl_rewrite.specs.Entries.{Made, Meaning, meanings_behind, meanings_in, is_entry, entry, entries, conditions_by}
 use Rattle.rl_form.proofs.Apart.{apart_push}
 use Rattle.rl_formed.proofs.ResultLaws.{ok_then, same_ok, not_refused, along_keeps, always}
 
@@ -130,20 +131,19 @@ made_differ : (cs : List ActionId) (ms : List Meaning) → AreDifferent (meant_n
 made_differ cs [] h = tt
 made_differ cs (m ∷ ms) h = differ_case (is_entry m.sign) cs (conditions_by cs m) m ms h.0 (made_differ (conditions_by cs m) ms h.1)
 
-in_meanings : (n : List ℕ) (ds : List Definition) (ps : List Plain) → In n (meant_names (meanings_of ds ps)) → In n (names_of ds)
-in_meanings n [] ps h = h
-in_meanings n (d ∷ ds) [] h = absurd h
-in_meanings n (d ∷ ds) (p ∷ ps) (inl h) = inl h
-in_meanings n (d ∷ ds) (p ∷ ps) (inr h) = inr (in_meanings n ds ps h)
+module _ (alphabet : Alphabet) where
+  -- definitions give their own names
+  same_names : (known : List Plain) (ds : List Definition) → meant_names (meanings_behind alphabet known ds) ≡ names_of ds
+  same_names known [] = refl
+  same_names known (d ∷ ds) = ap (λ z. d.name ∷ z) (same_names (known ++ value_plain alphabet known d.value ∷ []) ds)
 
-meanings_differ : (ds : List Definition) (ps : List Plain) → AreDifferent (names_of ds) → AreDifferent (meant_names (meanings_of ds ps))
-meanings_differ [] ps h = tt
-meanings_differ (d ∷ ds) [] h = tt
-meanings_differ (d ∷ ds) (p ∷ ps) h = ((λ g. h.0 (in_meanings d.name ds ps g)), meanings_differ ds ps h.1)
+  same_count : (known : List Plain) (ds : List Definition) → length (meanings_behind alphabet known ds) ≡ length ds
+  same_count known [] = refl
+  same_count known (d ∷ ds) = ap suc (same_count (known ++ value_plain alphabet known d.value ∷ []) ds)
 
 -- no two entries have one name where no two definitions have
-pub entries_differ : (cs : List ActionId) (ds : List Definition) (ps : List Plain) → AreDifferent (names_of ds) → AreDifferent (made_names (entries cs (meanings_of ds ps)))
-entries_differ cs ds ps h = made_differ cs (meanings_of ds ps) (meanings_differ ds ps h)
+pub entries_differ : (cs : List ActionId) (alphabet : Alphabet) (ds : List Definition) → AreDifferent (names_of ds) → AreDifferent (made_names (entries cs (meanings_in alphabet ds)))
+entries_differ cs alphabet ds h = made_differ cs (meanings_in alphabet ds) (subst AreDifferent (sym (same_names alphabet [] ds)) h)
 
 -- ---- how many
 
@@ -155,11 +155,9 @@ fewer_made : (cs : List ActionId) (ms : List Meaning) → length (entries cs ms)
 fewer_made cs [] = omega arith
 fewer_made cs (m ∷ ms) = few_case (is_entry m.sign) cs (conditions_by cs m) m ms (fewer_made (conditions_by cs m) ms)
 
-fewer_meant : (ds : List Definition) (ps : List Plain) → length (meanings_of ds ps) ≤ length ds
-fewer_meant [] ps = omega arith
-fewer_meant (d ∷ ds) [] = omega arith
-fewer_meant (d ∷ ds) (p ∷ ps) = omega (arith, fewer_meant ds ps)
-
 -- no more entries than definitions
-pub fewer_entries : (cs : List ActionId) (ds : List Definition) (ps : List Plain) → length (entries cs (meanings_of ds ps)) ≤ length ds
-fewer_entries cs ds ps = omega (arith, fewer_made cs (meanings_of ds ps), fewer_meant ds ps)
+pub fewer_entries : (cs : List ActionId) (alphabet : Alphabet) (ds : List Definition) → length (entries cs (meanings_in alphabet ds)) ≤ length ds
+fewer_entries cs alphabet ds =
+    let same = same_count alphabet [] ds in
+    let fewer = fewer_made cs (meanings_in alphabet ds) in
+    omega (arith, fewer, same)

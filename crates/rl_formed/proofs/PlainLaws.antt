@@ -1,7 +1,9 @@
 -- What every operator keeps holds of each definition's expression.
 use Rattle.std.proofs.Common.{◌≡◌, ℕ, zero, suc, ◌++◌, Bool, true, false, cond, List, [], ◌∷◌, map, Option, None, Some, Result, Ok, refl, sym, ap, ◌∙◌, subst}
 use Rattle.std.specs.Prelude.{slice_get, if◌then◌else◌}
+use Rattle.std.specs.List.{flat_map}
 use Rattle.rl_types.specs.declared.alphabet.Alphabet.{Alphabet}
+use Rattle.rl_types.specs.declared.numbers.ActionId.{ActionId}
 use Rattle.rl_types.specs.declared.numbers.Place.{Place}
 use Rattle.rl_types.specs.KeyRange.{Range}
 use Rattle.rl_grammar.specs.declared.read_fault.ReadFault.{ReadFault}
@@ -10,12 +12,14 @@ use Rattle.rl_grammar.specs.declared.syntax.Embedding.{Embedding}
 use Rattle.rl_grammar.specs.declared.syntax.Operand.{Operand as Written_Operand}
 use Rattle.rl_leaves.specs.BuiltIns.{built_in_leaf}
 use Rattle.rl_leaves.specs.declared.built_in.BuiltIn.{BuiltIn}
+use Rattle.rl_grammar.specs.declared.syntax.Pattern.{Pattern as Listed, out-Pattern}
 use Rattle.rl_grammar.specs.declared.syntax.Scanner.{Scanner, out-Scanner}
 use Rattle.rl_grammar.specs.declared.syntax.Statement.{Statement}
 use Rattle.rl_grammar.specs.declared.syntax.Statement.TheVariants as statement
 use Rattle.rl_grammar.specs.declared.syntax.Union.{Union}
 use Rattle.rl_grammar.specs.declared.step.Step.{Step}
 use Rattle.rl_draft.specs.declared.draft.Definition.{Definition}
+use Rattle.rl_draft.specs.declared.draft.Pattern.{Pattern}
 use Rattle.rl_draft.specs.declared.draft.Value.{Value}
 use Rattle.rl_draft.specs.declared.draft.Value.TheVariants as value
 use Rattle.rl_draft.specs.declared.expression.Expression.{Expression}
@@ -36,17 +40,18 @@ use Rattle.rl_draft.specs.declared.expression.Put.{Put}
 use Rattle.rl_draft.specs.declared.expression.Repetition.{Repetition}
 use Rattle.rl_draft.specs.declared.expression.Repetition.TheVariants as repetition
 use Rattle.rl_names.specs.Answers.{and_then, each}
-use Rattle.rl_names.specs.Drafts.{names_of, scope_behind, value_by, value_read, pattern_read, scanner_read, definition_read, definition_behind, definitions_by, definitions_behind, definitions_of}
+use Rattle.rl_names.specs.Drafts.{names_of, scope_behind, token_read, value_by, value_read, pattern_read, scanner_read, definition_read, definition_behind, definitions_by, definitions_behind, definitions_of}
 use Rattle.rl_names.specs.Events.{Event}
 use Rattle.rl_names.specs.Events as events
 use Rattle.rl_names.specs.Expressions.{Scope, put_read, link, union_told}
 use Rattle.rl_names.specs.Leaves.{leaf_read}
 use Rattle.rl_names.specs.Frames.{is_of}
+use Rattle.rl_names.specs.Places.{union_place}
 use Rattle.rl_names.specs.Values.{scanner_of}
-use Rattle.rl_rewrite.specs.Entries.{Meaning, meanings_of}
+use Rattle.rl_rewrite.specs.Entries.{Meaning, meanings_behind, meanings_in}
 use Rattle.rl_rewrite.specs.Plain as p
-use Rattle.rl_rewrite.specs.Plain.{Plain, Operand, Pairing, Guard, any, every, no_place, joined, repeated, all_repeated, whole, all_negated, starred, character, item, behind, row, leaf_plain, chained, named, expression_step, link_step, plain, operand, value_plain, plains_behind, plains}
-use Rattle.rl_form.proofs.Lists.{Each, each_append}
+use Rattle.rl_rewrite.specs.Plain.{Plain, Operand, Pairing, Guard, any, every, no_place, joined, repeated, all_repeated, whole, all_negated, starred, character, item, behind, row, leaf_plain, chained, named, expression_step, link_step, plain, operand, PlainPattern, PlainValue, pattern_plain, value_of, as_name}
+use Rattle.rl_form.proofs.Lists.{Each, each_append, each_front, each_behind}
 use Rattle.rl_formed.proofs.ResultLaws.{ok_then, same_ok, not_refused, along_keeps}
 use Rattle.rl_formed.proofs.ReadLaws.{OfRead, of_ok, of_then, union_holds}
 
@@ -78,7 +83,7 @@ module _ (alphabet : Alphabet) (H : Plain → Type 0) (Q : Put → Type 0) (S : 
   every_holds : (at : Place) → H (every alphabet at)
   every_holds at = kept.count (p.Set (any alphabet) at) 0 None at (kept.every at)
 
-  joined_hold : (j : Join) (a b : Plain) (at : Place) → H a → H b → H (joined alphabet j a b at)
+  pub joined_hold : (j : Join) (a b : Plain) (at : Place) → H a → H b → H (joined alphabet j a b at)
   joined_hold join.Union a b at h g = kept.pair p.Either a b at h g
   joined_hold join.Intersection a b at h g = kept.pair p.Both a b at h g
   joined_hold join.Difference a b at h g = kept.pair p.Less a b at h g
@@ -97,7 +102,7 @@ module _ (alphabet : Alphabet) (H : Plain → Type 0) (Q : Put → Type 0) (S : 
   repeated_hold repetition.Plus a at h = kept.count a 1 None at h
   repeated_hold (repetition.Count bounds) a at h = kept.count a bounds.least bounds.most at h
 
-  all_repeated_hold : (rs : List Repetition) (a : Plain) (at : Place) → H a → H (all_repeated rs a at)
+  pub all_repeated_hold : (rs : List Repetition) (a : Plain) (at : Place) → H a → H (all_repeated rs a at)
   all_repeated_hold [] a at h = h
   all_repeated_hold (r ∷ rs) a at h = all_repeated_hold rs (repeated r a at) at (repeated_hold r a at h)
 
@@ -105,7 +110,7 @@ module _ (alphabet : Alphabet) (H : Plain → Type 0) (Q : Put → Type 0) (S : 
   whole_holds negation.Language at = every_holds at
   whole_holds negation.Character at = kept.every at
 
-  all_negated_hold : (ms : List NegationSign) (a : Plain) → H a → H (all_negated alphabet ms a)
+  pub all_negated_hold : (ms : List NegationSign) (a : Plain) → H a → H (all_negated alphabet ms a)
   all_negated_hold [] a h = h
   all_negated_hold (m ∷ ms) a h = kept.pair p.Less (whole alphabet m.negation m.place) (all_negated alphabet ms a) m.place (whole_holds m.negation m.place)
       (all_negated_hold ms a h)
@@ -126,7 +131,7 @@ module _ (alphabet : Alphabet) (H : Plain → Type 0) (Q : Put → Type 0) (S : 
   row_holds [] at g = kept.empty at
   row_holds (i ∷ is) at g = behind_hold (item i at) is at (item_holds i.starred i.ranges at g.0) g.1
 
-  leaf_holds : (l : Leaf) (at : Place) → HoldsOfLeaf S l → H (leaf_plain l at)
+  pub leaf_holds : (l : Leaf) (at : Place) → HoldsOfLeaf S l → H (leaf_plain l at)
   leaf_holds (leaf.Set ranges) at h = of_set ranges at h
   leaf_holds leaf.Null at h = kept.empty at
   leaf_holds leaf.Nothing at h = kept.none at
@@ -193,42 +198,109 @@ AreScopes alphabet Q B k = (names : List (List ℕ)) (earlier : List Definition)
 
 -- the events of the expressions of a statement are such
 abbrev pub HoldsOfEvents : (Event → Type 0) → Statement → Type 0
-HoldsOfEvents B (statement.Definition d) = Each B (events.union_events d.value)
+HoldsOfEvents B (statement.Definition d) = Each B (events.value_events d.value)
 HoldsOfEvents B _ = Unit {0}
+
+-- it holds of the expression, or of those of all patterns
+abbrev pub HoldsOfPlain : (Plain → Type 0) → PlainValue → Type 0
+HoldsOfPlain H (p.Expression q) = H q
+HoldsOfPlain H (p.Scanner qs at) = Each (λ (q : PlainPattern). H q.plain) qs
 
 -- behind definitions of which it holds, it holds of the value
 abbrev HoldsOfValueBy : Alphabet → (Plain → Type 0) → Value → Type 0
-HoldsOfValueBy alphabet H v = (known : List Plain) → Each H known → H (value_plain alphabet known v)
+HoldsOfValueBy alphabet H v = (known : List Plain) → Each H known → HoldsOfPlain H (value_of alphabet known v)
 
 abbrev HoldsOfDefinitionBy : Alphabet → (Plain → Type 0) → Definition → Type 0
 HoldsOfDefinitionBy alphabet H d = HoldsOfValueBy alphabet H d.value
 
 module _ (alphabet : Alphabet) (H : Plain → Type 0) (Q : Put → Type 0) (S : List Range → Type 0) (kept : IsKept alphabet H Q) (of_set : (ranges : List Range) (at : Place) → S ranges → H (p.Set ranges at))
-    (B : Event → Type 0) (leaves : (o : Written_Operand) (l : Leaf) → B (events.Leaf o) → leaf_read alphabet o ≡ Ok l → HoldsOfLeaf S l) (built_ins : (b : BuiltIn) → HoldsOfLeaf S (built_in_leaf alphabet b)) where
+    (B : Event → Type 0) (barred : (at : Place) → B (events.Barred at) → B (events.Ends at)) (leaves : (o : Written_Operand) (l : Leaf) → B (events.Leaf o) → leaf_read alphabet o ≡ Ok l → HoldsOfLeaf S l) (built_ins : (b : BuiltIn) → HoldsOfLeaf S (built_in_leaf alphabet b)) where
   abbrev HoldsOfValue : Value → Type 0
   HoldsOfValue v = HoldsOfValueBy alphabet H v
 
   abbrev HoldsOfDefinition : Definition → Type 0
   HoldsOfDefinition d = HoldsOfDefinitionBy alphabet H d
 
-  scanner_holds : (k : Scope) (s : Scanner) → OfRead HoldsOfValue (scanner_read k s)
-  scanner_holds k s =
-      of_then (λ q. Unit {0}) HoldsOfValue (pattern_read k (out-Scanner s).first) (λ q. and_then (each (pattern_read k) (out-Scanner s).rest) (λ qs. Ok (value.Scanner (q ∷ qs)))) (λ q e. tt)
-      (λ q u. of_then (λ qs. Unit {0}) HoldsOfValue (each (pattern_read k) (out-Scanner s).rest) (λ qs. Ok (value.Scanner (q ∷ qs))) (λ qs e. tt)
-      (λ qs w. of_ok HoldsOfValue (value.Scanner (q ∷ qs)) (λ known h. kept.none no_place)))
+  -- ---- patterns
 
-  value_holds_by : (k : Scope) (u : Union) (s : Option Scanner) → IsScope alphabet Q B k → Each B (events.union_events u) → OfRead HoldsOfValue (value_by k u s)
+  -- an event that is such in a pattern is such
+  from_pattern : (place : Place) (e : Event) → Each B (events.in_pattern place e) → B e
+  from_pattern place (events.Leaf o) h = h.0
+  from_pattern place (events.Name w) h = h.0
+  from_pattern place (events.Action w) h = h.0
+  from_pattern place (events.Code w) h = h.0
+  from_pattern place (events.Priority w) h = h.0
+  from_pattern place (events.Quiet at a) h = h.0
+  from_pattern place (events.Embeds a) h = h.0
+  from_pattern place (events.Ends at) h = barred at h.0
+  from_pattern place (events.Barred at) h = h.0
+  from_pattern place (events.Taken at w) h = h.0
+
+  all_from_pattern : (place : Place) (es : List Event) → Each B (flat_map (events.in_pattern place) es) → Each B es
+  all_from_pattern place [] h = tt
+  all_from_pattern place (e ∷ es) h = (
+    from_pattern place e (each_front B (events.in_pattern place e) (flat_map (events.in_pattern place) es) h),
+    all_from_pattern place es (each_behind B (events.in_pattern place e) (flat_map (events.in_pattern place) es) h),
+  )
+
+  -- the events of its expression
+  of_pattern : (q : Listed) → Each B (events.pattern_uses q) → Each B (events.union_events (out-Pattern q).value)
+  of_pattern q h =
+      let place = union_place (out-Pattern q).value in
+      let es = events.union_events (out-Pattern q).value in
+      let own = each_front B (events.uses_from place es) (events.token_events (out-Pattern q).action) h in
+      let inside = each_behind B (events.first_name place es) (flat_map (events.calmed place) es ++ flat_map (events.in_pattern place) es) own in
+      all_from_pattern place es (each_behind B (flat_map (events.calmed place) es) (flat_map (events.in_pattern place) es) inside)
+
+  abbrev HoldsOfPattern : Pattern → Type 0
+  HoldsOfPattern q = (known : List Plain) → Each H known → H (plain alphabet known q.expression)
+
+  pattern_holds : (k : Scope) (q : Listed) → IsScope alphabet Q B k → Each B (events.pattern_uses q) → OfRead HoldsOfPattern (pattern_read k q)
+  pattern_holds k q scope b =
+      let read = union_told k (out-Pattern q).value in
+      let made : Expression → Option ActionId → Pattern = λ e t. record { expression = e; token = t; place = read.place } in
+      of_then (λ (e : Expression). (known : List Plain) → Each H known → H (plain alphabet known e)) HoldsOfPattern read.read
+      (λ e. and_then (token_read k (out-Pattern q).action) (λ t. Ok (made e t)))
+      (λ e r known h. union_plain alphabet H Q S kept of_set known h k scope.0 B leaves built_ins scope.1 (out-Pattern q).value (of_pattern q b) e r)
+      (λ e h. of_then (λ t. Unit {0}) HoldsOfPattern (token_read k (out-Pattern q).action) (λ t. Ok (made e t)) (λ t r. tt)
+      (λ t u. of_ok HoldsOfPattern (made e t) h))
+
+  patterns_hold : (k : Scope) (qs : List Listed) → IsScope alphabet Q B k → Each B (flat_map events.pattern_uses qs) → OfRead (Each HoldsOfPattern) (each (pattern_read k) qs)
+  patterns_hold k [] scope b = of_ok (Each HoldsOfPattern) [] tt
+  patterns_hold k (q ∷ qs) scope b =
+      of_then HoldsOfPattern (Each HoldsOfPattern) (pattern_read k q) (λ x. and_then (each (pattern_read k) qs) (λ xs. Ok (x ∷ xs)))
+      (pattern_holds k q scope (each_front B (events.pattern_uses q) (flat_map events.pattern_uses qs) b))
+      (λ x h. of_then (Each HoldsOfPattern) (Each HoldsOfPattern) (each (pattern_read k) qs) (λ xs. Ok (x ∷ xs)) (patterns_hold k qs scope (each_behind B (events.pattern_uses q) (flat_map events.pattern_uses qs) b))
+      (λ xs g. of_ok (Each HoldsOfPattern) (x ∷ xs) (h, g)))
+
+  all_patterns : (qs : List Pattern) → Each HoldsOfPattern qs → (known : List Plain) → Each H known → Each (λ (q : PlainPattern). H q.plain) (map (pattern_plain alphabet known) qs)
+  all_patterns [] h known g = tt
+  all_patterns (q ∷ qs) h known g = (h.0 known g, all_patterns qs h.1 known g)
+
+  scanner_holds : (k : Scope) (s : Scanner) → IsScope alphabet Q B k → Each B (events.scanner_uses s) → OfRead HoldsOfValue (scanner_read k s)
+  scanner_holds k s scope b =
+      let first = (out-Scanner s).first in
+      let rest = (out-Scanner s).rest in
+      let made = λ (q : Pattern) (qs : List Pattern). value.Scanner (q ∷ qs) (out-Scanner s).opening in
+      of_then HoldsOfPattern HoldsOfValue (pattern_read k first) (λ q. and_then (each (pattern_read k) rest) (λ qs. Ok (made q qs)))
+      (pattern_holds k first scope (each_front B (events.pattern_uses first) (flat_map events.pattern_uses rest) b))
+      (λ q h. of_then (Each HoldsOfPattern) HoldsOfValue (each (pattern_read k) rest) (λ qs. Ok (made q qs)) (patterns_hold k rest scope (each_behind B (events.pattern_uses first) (flat_map events.pattern_uses rest) b))
+      (λ qs g. of_ok HoldsOfValue (made q qs) (all_patterns (q ∷ qs) (h, g))))
+
+  -- ---- values
+
+  value_holds_by : (k : Scope) (u : Union) (s : Option Scanner) → IsScope alphabet Q B k → Each B (events.uses_by u s) → OfRead HoldsOfValue (value_by k u s)
   value_holds_by k u None scope b =
       of_then (λ e. HoldsOfValue (value.Expression e)) HoldsOfValue (union_told k u).read (λ e. Ok (value.Expression e))
       (λ e q known h. union_plain alphabet H Q S kept of_set known h k scope.0 B leaves built_ins scope.1 u b e q)
       (λ e h. of_ok HoldsOfValue (value.Expression e) h)
-  value_holds_by k u (Some s) scope b = scanner_holds k s
+  value_holds_by k u (Some s) scope b = scanner_holds k s scope b
 
-  definition_holds : (k : Scope) (d : Written) → IsScope alphabet Q B k → Each B (events.union_events d.value) → OfRead HoldsOfDefinition (definition_read k d)
+  definition_holds : (k : Scope) (d : Written) → IsScope alphabet Q B k → Each B (events.value_events d.value) → OfRead HoldsOfDefinition (definition_read k d)
   definition_holds k d scope b =
       of_then HoldsOfValue HoldsOfDefinition (value_read k d.value) _ (value_holds_by k d.value (scanner_of d.value) scope b) (λ v h. of_ok HoldsOfDefinition _ h)
 
-  one_more : (k : Scope) (earlier : List Definition) (d : Written) (ds : List Definition) → AreScopes alphabet Q B k → Each B (events.union_events d.value) → definition_behind k earlier d ≡ Ok ds → Each HoldsOfDefinition earlier → Each HoldsOfDefinition ds
+  one_more : (k : Scope) (earlier : List Definition) (d : Written) (ds : List Definition) → AreScopes alphabet Q B k → Each B (events.value_events d.value) → definition_behind k earlier d ≡ Ok ds → Each HoldsOfDefinition earlier → Each HoldsOfDefinition ds
   one_more k earlier d ds scopes b e h =
       let n = not_refused _ _ _ ds e in
       let i = ok_then (definition_read (scope_behind k (names_of earlier) earlier d.name.text) d) (λ x. Ok (earlier ++ x ∷ [])) ds n.1 in
@@ -250,7 +322,7 @@ module _ (alphabet : Alphabet) (H : Plain → Type 0) (Q : Put → Type 0) (S : 
 
 -- the events of the expressions of each statement are such, at some index of its own
 module _ (alphabet : Alphabet) (H : Plain → Type 0) (Q : Put → Type 0) (S : List Range → Type 0) (kept : IsKept alphabet H Q) (of_set : (ranges : List Range) (at : Place) → S ranges → H (p.Set ranges at))
-    (I : Type 0) (B : I → Event → Type 0) (leaves : (i : I) (o : Written_Operand) (l : Leaf) → B i (events.Leaf o) → leaf_read alphabet o ≡ Ok l → HoldsOfLeaf S l) (built_ins : (b : BuiltIn) → HoldsOfLeaf S (built_in_leaf alphabet b)) where
+    (I : Type 0) (B : I → Event → Type 0) (barred : (i : I) (at : Place) → B i (events.Barred at) → B i (events.Ends at)) (leaves : (i : I) (o : Written_Operand) (l : Leaf) → B i (events.Leaf o) → leaf_read alphabet o ≡ Ok l → HoldsOfLeaf S l) (built_ins : (b : BuiltIn) → HoldsOfLeaf S (built_in_leaf alphabet b)) where
   abbrev HoldsOfOne : Definition → Type 0
   HoldsOfOne d = HoldsOfDefinitionBy alphabet H d
 
@@ -260,25 +332,26 @@ module _ (alphabet : Alphabet) (H : Plain → Type 0) (Q : Put → Type 0) (S : 
 
   by_case : (b : Bool) (k : Scope) (s : Statement) (earlier ds : List Definition) → ((i : I) → AreScopes alphabet Q (B i) k) → (b ≡ true → (i : I) × HoldsOfEvents (B i) s) → (if b then definitions_by k earlier s else Ok earlier) ≡ Ok ds
       → Each HoldsOfOne earlier → Each HoldsOfOne ds
-  by_case true k s earlier ds scopes b e h = let u = b refl in by_statement alphabet H Q S kept of_set (B u.0) (leaves u.0) built_ins k s earlier ds (scopes u.0) u.1 e h
+  by_case true k s earlier ds scopes b e h = let u = b refl in by_statement alphabet H Q S kept of_set (B u.0) (barred u.0) (leaves u.0) built_ins k s earlier ds (scopes u.0) u.1 e h
   by_case false k s earlier ds scopes b e h = subst (Each HoldsOfOne) (same_ok earlier ds e) h
 
   definitions_hold : (k : Scope) (machine : List ℕ) (steps : List Step) (ds : List Definition) → ((i : I) → AreScopes alphabet Q (B i) k) → Each (HoldsOfStep machine) steps → definitions_of k machine steps ≡ Ok ds → Each HoldsOfOne ds
   definitions_hold k machine steps ds scopes b e =
       along_keeps (Each HoldsOfOne) (HoldsOfStep machine) (definitions_behind k machine) (λ earlier s t u q h. by_case (is_of machine s) k s.statement earlier t scopes u q h) [] steps ds b e tt
 
-  plains_hold : (known : List Plain) (ds : List Definition) → Each H known → Each HoldsOfOne ds → Each H (plains_behind alphabet known ds)
-  plains_hold known [] h g = h
-  plains_hold known (d ∷ ds) h g =
-      let v = value_plain alphabet known d.value in
-      plains_hold (known ++ v ∷ []) ds (each_append H known (v ∷ []) h (g.0 known h, tt)) g.1
+  -- as a name, a scanner stands for no word
+  named_hold : (v : PlainValue) → HoldsOfPlain H v → H (as_name v)
+  named_hold (p.Expression q) h = h
+  named_hold (p.Scanner qs at) h = kept.none no_place
 
-  meanings_hold : (ds : List Definition) (ps : List Plain) → Each H ps → Each (λ (m : Meaning). H m.plain) (meanings_of ds ps)
-  meanings_hold [] ps h = tt
-  meanings_hold (d ∷ ds) [] h = tt
-  meanings_hold (d ∷ ds) (q ∷ ps) h = (h.0, meanings_hold ds ps h.1)
+  meanings_hold : (known : List Plain) (ds : List Definition) → Each H known → Each HoldsOfOne ds → Each (λ (m : Meaning). HoldsOfPlain H m.value) (meanings_behind alphabet known ds)
+  meanings_hold known [] h g = tt
+  meanings_hold known (d ∷ ds) h g =
+      let v = value_of alphabet known d.value in
+      let one = g.0 known h in
+      (one, meanings_hold (known ++ as_name v ∷ []) ds (each_append H known (as_name v ∷ []) h (named_hold v one, tt)) g.1)
 
-  -- it holds of what each definition stands for
+  -- it holds of what each definition gives its name to
   pub all_meanings : (k : Scope) (machine : List ℕ) (steps : List Step) (ds : List Definition) → ((i : I) → AreScopes alphabet Q (B i) k) → Each (HoldsOfStep machine) steps → definitions_of k machine steps ≡ Ok ds
-      → Each (λ (m : Meaning). H m.plain) (meanings_of ds (plains alphabet ds))
-  all_meanings k machine steps ds scopes b e = meanings_hold ds (plains alphabet ds) (plains_hold [] ds tt (definitions_hold k machine steps ds scopes b e))
+      → Each (λ (m : Meaning). HoldsOfPlain H m.value) (meanings_in alphabet ds)
+  all_meanings k machine steps ds scopes b e = meanings_hold [] ds tt (definitions_hold k machine steps ds scopes b e)

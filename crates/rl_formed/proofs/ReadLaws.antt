@@ -83,7 +83,7 @@ module _ (k : Scope) (P : Expression → Type 0) (PL : Link → Type 0) (Q : Put
 
   of_value : (at : Place) (i : ℕ) (v : Value) → OfRead P (value_used at i v)
   of_value at i (value.Expression e) = of_ok P (made.Name (followed i (out-Expression e))) (name_holds (followed i (out-Expression e)))
-  of_value at i (value.Scanner ps) = of_err P _
+  of_value at i (value.Scanner ps opening) = of_err P _
 
   of_used : (at : Place) (i : ℕ) (d : Option Definition) → OfRead P (definition_used at i d)
   of_used at i None = of_err P _

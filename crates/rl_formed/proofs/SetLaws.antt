@@ -1,5 +1,5 @@
 -- The sets of entries are few ranges of keys of the alphabet.
-use Rattle.std.proofs.Common.{◌≡◌, ℕ, ◌≤◌, Bool, true, false, cond, List, [], ◌∷◌, length, Option, None, Some, Ok, refl, arith}
+use Rattle.std.proofs.Common.{◌≡◌, ℕ, ◌≤◌, Bool, true, false, cond, List, [], ◌∷◌, map, length, Option, None, Some, Ok, refl, arith}
 use Rattle.std.specs.Prelude.{All, MatchOption}
 use Rattle.std.specs.List.{flat_map}
 use Rattle.rl_types.specs.declared.alphabet.Alphabet.{Alphabet}
@@ -20,15 +20,17 @@ use Rattle.rl_leaves.proofs.BuiltInLaws.{built_in_form}
 use Rattle.rl_grammar.specs.declared.step.Step.{Step}
 use Rattle.rl_names.specs.Drafts.{definitions_of}
 use Rattle.rl_names.specs.Expressions.{Scope}
-use Rattle.rl_rewrite.specs.Entries.{Made, Meaning, meanings_of, is_entry, entry, entries, made_by, conditions_by}
+use Rattle.rl_rewrite.specs.Entries.{Made, Meaning, meanings_in, is_entry, entry, entries, made_by, conditions_by}
 use Rattle.rl_rewrite.specs.Plain as p
-use Rattle.rl_rewrite.specs.Plain.{Plain, plains}
-use Rattle.rl_rewrite.specs.Walk.{walk, begun}
+use Rattle.rl_rewrite.specs.Plain.{PlainPattern, PlainValue}
+use Rattle.rl_automata.specs.Scans.{Pattern}
+use Rattle.rl_rewrite.specs.declared.counts.Counts.{Counts}
+use Rattle.rl_rewrite.specs.Walk.{walk, walk_patterns, walk_value, begun}
 use Rattle.rl_rewrite.proofs.SetLaws.{AreSets, walk_sets}
 use Rattle.rl_form.proofs.Lists.{Each, each_append, each, all}
 use Rattle.rl_formed.proofs.EmbeddedLaws.{AnyEvent, any_steps}
 use Rattle.rl_formed.proofs.LeafLaws.{leaf_form}
-use Rattle.rl_formed.proofs.PlainLaws.{IsKept, HoldsOfRanges, HoldsOfLeaf, all_meanings}
+use Rattle.rl_formed.proofs.PlainLaws.{IsKept, HoldsOfPlain, HoldsOfRanges, HoldsOfLeaf, all_meanings}
 
 module _ (alphabet : Alphabet) where
   -- few ranges, of keys of the alphabet
@@ -64,20 +66,32 @@ module _ (alphabet : Alphabet) where
     series = λ a ps at h g. h;
   }
 
-  made_few : (b : Bool) (cs : List ActionId) (m : Meaning) → AreSets IsFew m.plain → Each (λ (x : Made). Each IsFew (flat_map sets_in (trees_of x.root))) (cond b (entry cs m ∷ []) [])
-  made_few true cs m h = (each_append IsFew (sets_in (walk m.plain (begun cs)).0.node) [] (each IsFew (sets_in (walk m.plain (begun cs)).0.node) (walk_sets IsFew m.plain (begun cs) h)) tt, tt)
+  -- the sets of patterns
+  patterns_few : (qs : List PlainPattern) (c : Counts) → Each (λ (q : PlainPattern). AreSets IsFew q.plain) qs → Each IsFew (flat_map sets_in (map (λ (x : Pattern). x.tree) (walk_patterns qs c).0.patterns))
+  patterns_few [] c h = tt
+  patterns_few (q ∷ qs) c h =
+      let x = walk q.plain c in
+      each_append IsFew (sets_in x.0.node) (flat_map sets_in (map (λ (x : Pattern). x.tree) (walk_patterns qs x.1).0.patterns))
+      (each IsFew (sets_in x.0.node) (walk_sets IsFew q.plain c h.0)) (patterns_few qs x.1 h.1)
+
+  value_few : (v : PlainValue) (c : Counts) → HoldsOfPlain (AreSets IsFew) v → Each IsFew (flat_map sets_in (trees_of (walk_value v c).0.root))
+  value_few (p.Expression q) c h = each_append IsFew (sets_in (walk q c).0.node) [] (each IsFew (sets_in (walk q c).0.node) (walk_sets IsFew q c h)) tt
+  value_few (p.Scanner qs at) c h = patterns_few qs c h
+
+  made_few : (b : Bool) (cs : List ActionId) (m : Meaning) → HoldsOfPlain (AreSets IsFew) m.value → Each (λ (x : Made). Each IsFew (flat_map sets_in (trees_of x.root))) (cond b (entry cs m ∷ []) [])
+  made_few true cs m h = (value_few m.value (begun cs) h, tt)
   made_few false cs m h = tt
 
-  entries_few : (cs : List ActionId) (ms : List Meaning) → Each (λ (m : Meaning). AreSets IsFew m.plain) ms → Each (λ (x : Made). Each IsFew (flat_map sets_in (trees_of x.root))) (entries cs ms)
+  entries_few : (cs : List ActionId) (ms : List Meaning) → Each (λ (m : Meaning). HoldsOfPlain (AreSets IsFew) m.value) ms → Each (λ (x : Made). Each IsFew (flat_map sets_in (trees_of x.root))) (entries cs ms)
   entries_few cs [] h = tt
   entries_few cs (m ∷ ms) h =
       each_append (λ (x : Made). Each IsFew (flat_map sets_in (trees_of x.root))) (made_by cs m) (entries (conditions_by cs m) ms) (made_few (is_entry m.sign) cs m h.0) (entries_few (conditions_by cs m) ms h.1)
 
   all_few_by : IsFew (p.any alphabet) → (k : Scope) (machine : List ℕ) (steps : List Step) (ds : List Definition) → k.alphabet ≡ alphabet → definitions_of k machine steps ≡ Ok ds
-      → Each (λ (x : Made). Each IsFew (flat_map sets_in (trees_of x.root))) (entries [] (meanings_of ds (plains alphabet ds)))
+      → Each (λ (x : Made). Each IsFew (flat_map sets_in (trees_of x.root))) (entries [] (meanings_in alphabet ds))
   all_few_by any k machine steps ds same e =
-      entries_few [] (meanings_of ds (plains alphabet ds))
-      (all_meanings alphabet (AreSets IsFew) (λ q. Unit {0}) IsFew (kept any) (λ ranges at h. h) (Unit {0}) AnyEvent (λ i o l b r. leaf_few l (leaf_form alphabet o l r)) (λ b. leaf_few (built_in_leaf alphabet b) (built_in_form alphabet b))
+      entries_few [] (meanings_in alphabet ds)
+      (all_meanings alphabet (AreSets IsFew) (λ q. Unit {0}) IsFew (kept any) (λ ranges at h. h) (Unit {0}) AnyEvent (λ i at h. tt) (λ i o l b r. leaf_few l (leaf_form alphabet o l r)) (λ b. leaf_few (built_in_leaf alphabet b) (built_in_form alphabet b))
       k machine steps ds (λ i names earlier owner. (same, (λ m b a r. tt))) (any_steps machine steps) e)
 
 -- every key of an alphabet is one of its keys
@@ -94,5 +108,5 @@ any_few alphabet = (omega arith, all (IsInAlphabet alphabet) (p.any alphabet) (a
 
 -- the sets of all entries
 pub all_few : (alphabet : Alphabet) (k : Scope) (machine : List ℕ) (steps : List Step) (ds : List Definition) → k.alphabet ≡ alphabet → definitions_of k machine steps ≡ Ok ds
-    → Each (λ (x : Made). Each (IsFew alphabet) (flat_map sets_in (trees_of x.root))) (entries [] (meanings_of ds (plains alphabet ds)))
+    → Each (λ (x : Made). Each (IsFew alphabet) (flat_map sets_in (trees_of x.root))) (entries [] (meanings_in alphabet ds))
 all_few alphabet k machine steps ds same e = all_few_by alphabet (any_few alphabet) k machine steps ds same e

@@ -12,13 +12,11 @@ use Rattle.rl_types.specs.declared.faults.LimitKind.TheVariants.{L7}
 use Rattle.rl_automata.specs.Refused.{AreDifferent, conditions_in}
 use Rattle.rl_model.specs.declared.spec.Entry as rust
 use Rattle.rl_model.specs.Specification.{root_of}
-use Rattle.rl_model.specs.Counts.{size_of, depth_of, trees_of}
+use Rattle.rl_model.specs.Counts.{root_size, root_depth, trees_of}
 use Rattle.rl_model.specs.WellFormed.{IsNumber}
-use Rattle.rl_rewrite.specs.Walk.{walk, begun}
-use Rattle.rl_rewrite.specs.Entries.{Made, Meaning, made_of, is_entry, entry, entries, made_by, all_conditions, first_limit, limit_at, limit_by, limit_of, conditions_by, conditions_behind, size_limit, condition_limit, earlier_limit, IsMade, AreSoFar}
+use Rattle.rl_rewrite.specs.Walk.{walk_value, begun}
+use Rattle.rl_rewrite.specs.Entries.{Made, Meaning, made_of, is_entry, entries, all_conditions, first_limit, limit_at, limit_by, limit_of, conditions_by, conditions_behind, size_limit, condition_limit, earlier_limit, IsMade, AreSoFar}
 use Rattle.rl_rewrite.proofs.EntryLaws.{all_made, ends_differ, ends_known}
-use Rattle.rl_form.specs.Form.{IsPlain}
-use Rattle.rl_form.proofs.Lists.{Each, each_append}
 
 -- ---- conditions
 
@@ -35,8 +33,8 @@ not_above k n e = grind (arith, nat_tests)
 
 few_behind : (b : Bool) (cs : List ActionId) (m : Meaning) → length cs ≤ 8 → cond b (limit_of cs m) None ≡ None → length (cond b (conditions_behind cs m) cs) ≤ 8
 few_behind true cs m h e =
-    let x = walk m.plain (begun cs) in
-    not_above 8 (length x.1.conditions) (no_seventh (nat_lt 8 (length x.1.conditions)) (no_later (size_limit (size_of x.0.node) (depth_of x.0.node)) (condition_limit x.1.conditions) e))
+    let x = walk_value m.value (begun cs) in
+    not_above 8 (length x.1.conditions) (no_seventh (nat_lt 8 (length x.1.conditions)) (no_later (size_limit (root_size x.0.root) (root_depth x.0.root)) (condition_limit x.1.conditions) e))
 few_behind false cs m h e = h
 
 limit_first : (l : Option LimitKind) (at : Place) (later : Option Limit) → limit_at l at later ≡ None → (l ≡ None) × (later ≡ None)
@@ -69,16 +67,3 @@ module _ (ms : List Meaning) (es : List rust.Entry) (cs : List ActionId) (made :
   -- each condition in an expression is one of them
   pub conditions_known : All (λ (e : rust.Entry). All (IsNumber (length cs)) (flat_map conditions_in (trees_of (root_of e.root)))) es
   conditions_known = ends_known ms (record { entries = es; conditions = cs }) so_far
-
--- ---- no entry is a scanner
-
-abbrev pub IsPlainMade : Made → Type 0
-IsPlainMade m = IsPlain m.root
-
-plain_by : (b : Bool) (cs : List ActionId) (m : Meaning) → Each IsPlainMade (cond b (entry cs m ∷ []) [])
-plain_by true cs m = (tt, tt)
-plain_by false cs m = tt
-
-pub all_plain : (cs : List ActionId) (ms : List Meaning) → Each IsPlainMade (entries cs ms)
-all_plain cs [] = tt
-all_plain cs (m ∷ ms) = each_append IsPlainMade (made_by cs m) (entries (conditions_by cs m) ms) (plain_by (is_entry m.sign) cs m) (all_plain (conditions_by cs m) ms)

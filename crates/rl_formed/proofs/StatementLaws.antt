@@ -1,5 +1,5 @@
 -- What a draft's actions say: their codes are read as their statements, and those that may have none have none.
-use Rattle.std.proofs.Common.{◌≡◌, ℕ, ◌≤◌, List, [], ◌∷◌, map, None, refl, sym, subst}
+use Rattle.std.proofs.Common.{◌≡◌, ℕ, ◌≤◌, List, [], ◌∷◌, map, length, None, refl, sym, subst}
 use Rattle.std.specs.Prelude.{All}
 use Rattle.rl_types.specs.declared.numbers.ActionId.{ActionId}
 use Rattle.rl_grammar.specs.declared.step.Step.{Step}
@@ -8,20 +8,19 @@ use Rattle.rl_grammar.specs.declared.syntax.Statement.TheVariants as statement
 use Rattle.rl_automata.specs.Nodes.{Node}
 use Rattle.rl_code.specs.Reading.{IsBlock, IsReadAs, statements_in}
 use Rattle.rl_model.specs.declared.spec.ActionDef.{ActionDef}
-use Rattle.rl_model.specs.Counts.{turn_actions_in, trees_of}
+use Rattle.rl_model.specs.Counts.{actions_in, turn_actions_in, trees_of, pattern_trees, token_actions}
 use Rattle.rl_model.specs.Specification.{action_of}
-use Rattle.rl_model.specs.WellFormed.{HasNoStatement, outer_statements}
+use Rattle.rl_model.specs.WellFormed.{IsNumber, HasNoStatement, HasPatterns, outer_statements}
 use Rattle.rl_draft.specs.declared.draft.Draft.{Draft}
 use Rattle.rl_names.specs.Actions.{actions_of}
 use Rattle.rl_names.specs.Checks.{leaves_fault}
 use Rattle.rl_names.specs.Drafts.{scope_of, draft_with}
 use Rattle.rl_names.specs.Entries.{entries_of}
-use Rattle.rl_names.specs.Events.{Event, union_events}
+use Rattle.rl_names.specs.Events.{Event, value_events}
 use Rattle.rl_names.specs.Events as event
 use Rattle.rl_names.specs.Names.{names_fault}
+use Rattle.rl_names.specs.Patterns.{AreFit}
 use Rattle.rl_rewrite.specs.Entries.{Made, meanings, entries, all_conditions}
-use Rattle.rl_rewrite.specs.Plain.{plains}
-use Rattle.rl_rewrite.proofs.NameLaws.{plains_count}
 use Rattle.rl_form.proofs.Lists.{Each, each_more, all, each}
 use Rattle.rl_formed.specs.Laws as laws
 use Rattle.rl_formed.proofs.ActionLaws.{HoldsOfEvent, HoldsOfStatement, HoldsOfOwn, all_actions}
@@ -31,6 +30,8 @@ use Rattle.rl_formed.proofs.EntryNameLaws.{entries_made}
 use Rattle.rl_formed.proofs.FaultLaws.{Before, NamesEntries, right_codes, named_entries}
 use Rattle.rl_formed.proofs.NameLaws.{actions_differ}
 use Rattle.rl_formed.proofs.QuietLaws.{IsKnown, quiet_embedding, all_known}
+use Rattle.rl_formed.proofs.FitLaws.{fit_patterns}
+use Rattle.rl_formed.proofs.PatternLaws.{IsFitMade, fit_entries}
 use Rattle.rl_formed.proofs.TurnLaws as turning
 
 -- ---- statements as they are read
@@ -46,7 +47,10 @@ module _ (entries : List (List ℕ)) where
   event_stated (event.Action w) = tt
   event_stated (event.Priority w) = tt
   event_stated (event.Quiet place a) = tt
-  event_stated (event.Scan place) = tt
+  event_stated (event.Embeds a) = tt
+  event_stated (event.Ends place) = tt
+  event_stated (event.Barred place) = tt
+  event_stated (event.Taken place w) = tt
 
   events_stated : (es : List Event) → Each (HoldsOfEvent IsStated entries) es
   events_stated [] = tt
@@ -54,7 +58,7 @@ module _ (entries : List (List ℕ)) where
 
   stated : (s : Statement) → HoldsOfStatement IsStated entries s
   stated (statement.Action a) = refl
-  stated (statement.Definition d) = events_stated (union_events d.value)
+  stated (statement.Definition d) = events_stated (value_events d.value)
   stated (statement.Machine m) = tt
   stated (statement.Include m) = tt
   stated (statement.Alphtype m) = tt
@@ -74,11 +78,14 @@ module _ (entries : List (List ℕ)) where
   event_block (event.Action w) h = tt
   event_block (event.Priority w) h = tt
   event_block (event.Quiet place a) h = tt
-  event_block (event.Scan place) h = tt
+  event_block (event.Embeds a) h = tt
+  event_block (event.Ends place) h = tt
+  event_block (event.Barred place) h = tt
+  event_block (event.Taken place w) h = tt
 
   block : (s : Statement) → laws.IsWritten s → HoldsOfStatement HasBlock entries s
   block (statement.Action a) h = h.1
-  block (statement.Definition d) h = each_more laws.IsUsedAsWritten (HoldsOfEvent HasBlock entries) (union_events d.value) event_block (each laws.IsUsedAsWritten (union_events d.value) h.1)
+  block (statement.Definition d) h = each_more laws.IsUsedAsWritten (HoldsOfEvent HasBlock entries) (value_events d.value) event_block (each laws.IsUsedAsWritten (value_events d.value) h.1)
   block (statement.Machine m) h = tt
   block (statement.Include m) h = tt
   block (statement.Alphtype m) h = tt
@@ -129,7 +136,7 @@ have_read_codes steps machine draft w none leaves h =
     let d = draft_with steps machine actions r.definitions in
     let P = λ (names : List (List ℕ)) (a : ActionDef). IsReadAs names a.code a.statements in
     let names = entries_of machine steps in
-    let same = entries_made (scope_of r.names machine steps) machine steps r.definitions (plains d.alphabet r.definitions) r.defined (plains_count d.alphabet r.definitions) in
+    let same = entries_made (scope_of r.names machine steps) machine steps r.definitions d.alphabet r.defined in
     let codes = read_one names machine actions (all_stated machine steps) (all_blocks machine steps w) (all_right machine steps none) (all_named machine steps leaves) in
     subst laws.HasReadCodes r.is (all (P (laws.entry_names d)) actions (subst (λ z. Each (P z) actions) same codes))
 
@@ -146,7 +153,7 @@ quiet_draft steps machine draft none h =
     let d = draft_with steps machine actions r.definitions in
     let named = actions_differ actions r.names r.named in
     let quiet = turning.quiet_entries actions d.alphabet (Before steps) (IsKnown machine steps named.1) (scope_of r.names machine steps) machine steps r.definitions refl named.0
-    (quiet_embedding machine steps named.1) (all_known machine steps named.1 none) r.defined in
+    (quiet_embedding machine steps named.1) (λ i at h. tt) (all_known machine steps named.1 none) r.defined in
     let Q = λ (n : ℕ). HasNoStatement (map action_of actions) n in
     let P = λ (m : Made). All (λ (t : Node). All Q (turn_actions_in t)) (trees_of m.root) in
     subst IsQuietDraft r.is (record {
@@ -154,6 +161,47 @@ quiet_draft steps machine draft none h =
       turns = all P (entries [] (meanings d)) (each_more (turning.HasQuietTurns actions) P (entries [] (meanings d))
           (λ m k. all (λ (t : Node). All Q (turn_actions_in t)) (trees_of m.root) (each_more (λ t. Each Q (turn_actions_in t)) (λ t. All Q (turn_actions_in t)) (trees_of m.root) (λ t e. all Q (turn_actions_in t) e) k)) quiet.0);
     })
+
+-- ---- patterns
+
+record HasFitScanners (draft : Draft) : Type 0 where
+  patterns : laws.HasPatternsIn draft
+  tokens : laws.HasOwnTokens draft
+  quiet : laws.HasQuietPatterns draft
+
+of_each : {X : Type 0} (P Q : X → Type 0) (xs : List X) → ((x : X) → P x → Q x) → Each P xs → All Q xs
+of_each P Q xs f h = all Q xs (each_more P Q xs f h)
+
+fit_draft : (draft : Draft) → AreFit draft → HasFitScanners draft
+fit_draft draft h =
+    let made = entries [] (meanings draft) in
+    let P = IsFitMade draft.actions draft.alphabet in
+    let count = length draft.actions in
+    let Q = λ (n : ℕ). HasNoStatement (map action_of draft.actions) n in
+    let fit = fit_entries draft.actions draft.alphabet draft.definitions h in
+    record {
+      patterns = of_each P (λ m. HasPatterns m.root) made (λ m k. k.patterns) fit;
+      tokens = of_each P (λ m. All (IsNumber count) (token_actions m.root)) made (λ m k. all (IsNumber count) (token_actions m.root) k.tokens) fit;
+      quiet = of_each P (λ m. All (λ (t : Node). All Q (actions_in t)) (pattern_trees m.root)) made
+          (λ m k. of_each (λ t. Each Q (actions_in t)) (λ t. All Q (actions_in t)) (pattern_trees m.root) (λ t e. all Q (actions_in t) e) k.quiet) fit;
+    }
+
+fit_named : laws.OfNamed HasFitScanners
+fit_named steps machine draft none h =
+    let r = read steps machine draft h in
+    let actions = actions_of machine steps in
+    let d = draft_with steps machine actions r.definitions in
+    let named = actions_differ actions r.names r.named in
+    subst HasFitScanners r.is (fit_draft d (fit_patterns machine steps named.1 (scope_of r.names machine steps) r.definitions named.0 none r.defined))
+
+pub have_patterns : laws.OfNamed laws.HasPatternsIn
+have_patterns steps machine draft none h = (fit_named steps machine draft none h).patterns
+
+pub have_own_tokens : laws.OfNamed laws.HasOwnTokens
+have_own_tokens steps machine draft none h = (fit_named steps machine draft none h).tokens
+
+pub have_quiet_patterns : laws.OfNamed laws.HasQuietPatterns
+have_quiet_patterns steps machine draft none h = (fit_named steps machine draft none h).quiet
 
 pub have_quiet_conditions : laws.OfNamed laws.HasQuietConditions
 have_quiet_conditions steps machine draft none h = (quiet_draft steps machine draft none h).conditions

@@ -15,9 +15,7 @@ use Rattle.rl_grammar.specs.declared.syntax.Embedding.{Embedding}
 use Rattle.rl_grammar.specs.declared.syntax.Embedding.TheVariants as embedding
 use Rattle.rl_grammar.specs.declared.syntax.Label.{Label}
 use Rattle.rl_grammar.specs.declared.syntax.Label.TheVariants as label
-use Rattle.rl_grammar.specs.declared.syntax.Number.{Number}
 use Rattle.rl_grammar.specs.declared.syntax.Priority.{Priority}
-use Rattle.rl_grammar.specs.declared.syntax.Priority.TheVariants as priority
 use Rattle.rl_grammar.specs.declared.syntax.StateKind.{StateKind}
 use Rattle.rl_grammar.specs.declared.syntax.StateKind.TheVariants as called
 use Rattle.rl_model.specs.declared.spec.ActionDef.{ActionDef}
@@ -29,21 +27,18 @@ use Rattle.rl_draft.specs.declared.expression.Put.{Put}
 use Rattle.rl_draft.specs.declared.expression.Put.TheVariants as put
 use Rattle.rl_draft.specs.declared.expression.Transitions.{Transitions}
 use Rattle.rl_names.specs.Actions.{anonymous_name}
-use Rattle.rl_names.specs.Answers.{and_then}
 use Rattle.rl_names.specs.Drafts.{scope_behind, definitions_of}
-use Rattle.rl_names.specs.Events.{Event, embedding_events}
-use Rattle.rl_names.specs.Expressions.{Scope, number_at, action_at, action_named, action_read, prioritized, priority_read, label_read, put_read, transitions_of, class_of, kind_of}
+use Rattle.rl_names.specs.Events.{Event, Barred, Ends, embedding_events}
+use Rattle.rl_names.specs.Expressions.{Scope, action_at, action_named, action_read, label_read, put_read, transitions_of, class_of, kind_of}
 use Rattle.rl_names.specs.Expressions as expressions
 use Rattle.rl_names.specs.Frames.{is_of}
-use Rattle.rl_names.specs.Leaves.{number_read}
-use Rattle.rl_rewrite.specs.Entries.{Made, meanings_of, entries, all_conditions}
-use Rattle.rl_rewrite.specs.Plain.{plains}
+use Rattle.rl_rewrite.specs.Entries.{Made, meanings_in, entries, all_conditions}
 use Rattle.rl_form.proofs.Lists.{Each}
 use Rattle.rl_formed.proofs.ResultLaws.{ok_then, same_ok}
 use Rattle.rl_formed.proofs.ReadLaws.{OfRead, of_ok, of_then}
 use Rattle.rl_formed.proofs.PlainLaws.{HoldsOfEvents}
 use Rattle.rl_formed.proofs.WalkLaws.{HoldsOfPut, turn_asked, keeps_turns}
-use Rattle.rl_formed.proofs.EmbeddedLaws.{number_found, all_hold}
+use Rattle.rl_formed.proofs.EmbeddedLaws.{number_found, of_priority, all_hold}
 
 -- the name that an action is used by
 abbrev pub name_used : ActionUse → List ℕ
@@ -81,7 +76,7 @@ module _ (actions : List ActionDef) where
         let next : suc i.0 ≡ i.0 + 1 = omega arith in
         subst IsQuietAction (same_ok (record { 0 = i.0 + 1 }) a i.2) (subst IsQuiet next (quiet_at actions name i.0 at.0 at.1 h))
 
-    quiet_read : (a : ActionUse) → IsQuietName actions (name_used a) → OfRead IsQuietAction (action_read k a)
+    pub quiet_read : (a : ActionUse) → IsQuietName actions (name_used a) → OfRead IsQuietAction (action_read k a)
     quiet_read (action.Name w) h = quiet_named w.place w.text h
     quiet_read (action.Group opening w closing) h = quiet_named w.place w.text h
     quiet_read (action.Code w) h = quiet_named w.place (anonymous_name w.place) h
@@ -91,18 +86,9 @@ module _ (actions : List ActionDef) where
     abbrev HoldsPut : Put → Type 0
     HoldsPut q = HoldsOfPut (turn_asked IsQuiet) q
 
-    any_priority : (ts : Transitions) (place : Place) (name : List ℕ) (n : Number) → OfRead HoldsPut (prioritized k ts place name n)
-    any_priority ts place name n =
-        of_then (λ i. Unit {0}) HoldsPut (expressions.numbered place name k.priorities) (λ i. and_then (number_read n) (λ v. Ok (put.Priority ts i v))) (λ i e. tt)
-        (λ i u. of_then (λ v. Unit {0}) HoldsPut (number_read n) (λ v. Ok (put.Priority ts i v)) (λ v e. tt) (λ v w. of_ok HoldsPut (put.Priority ts i v) tt))
-
-    any_rank : (ts : Transitions) (r : Priority) → OfRead HoldsPut (priority_read k ts r)
-    any_rank ts (priority.Plain n) = any_priority ts _ k.owner n
-    any_rank ts (priority.Named r) = any_priority ts r.name.place r.name.text r.value
-
     any_label : (ts : Transitions) (l : Label) → OfRead HoldsPut (label_read k ts l)
     any_label ts (label.Action a) = of_then (λ n. Unit {0}) HoldsPut (action_read k a) (λ n. Ok (put.Action ts n)) (λ n e. tt) (λ n u. of_ok HoldsPut (put.Action ts n) tt)
-    any_label ts (label.Priority r) = any_rank ts r
+    any_label ts (label.Priority r) = of_priority k HoldsPut (λ ts x v. tt) ts r
 
   -- the action of a to-state or from-state embedding, or of a condition, has no statement
   abbrev pub IsQuietState : StateKind → ActionUse → Type 0
@@ -139,8 +125,8 @@ module _ (actions : List ActionDef) where
 
   -- of all entries, and of the conditions, where the events of what they embed say so
   pub quiet_entries : (alphabet : Alphabet) (I : Type 0) (B : I → Event → Type 0) (k : Scope) (machine : List ℕ) (steps : List Step) (ds : List Definition) → k.alphabet ≡ alphabet → k.actions ≡ names_in actions
-      → ((i : I) (m : Embedding) → Each (B i) (embedding_events m) → IsQuietUse m) → Each (λ (s : Step). is_of machine s ≡ true → (i : I) × HoldsOfEvents (B i) s.statement) steps → definitions_of k machine steps ≡ Ok ds
-      → Each HasQuietTurns (entries [] (meanings_of ds (plains alphabet ds))) × Each IsQuietAction (all_conditions [] (meanings_of ds (plains alphabet ds)))
-  quiet_entries alphabet I B k machine steps ds known own quiet events e =
+      → ((i : I) (m : Embedding) → Each (B i) (embedding_events m) → IsQuietUse m) → ((i : I) (at : Place) → B i (Barred at) → B i (Ends at)) → Each (λ (s : Step). is_of machine s ≡ true → (i : I) × HoldsOfEvents (B i) s.statement) steps → definitions_of k machine steps ≡ Ok ds
+      → Each HasQuietTurns (entries [] (meanings_in alphabet ds)) × Each IsQuietAction (all_conditions [] (meanings_in alphabet ds))
+  quiet_entries alphabet I B k machine steps ds known own quiet barred events e =
       all_hold (turn_asked IsQuiet) (λ t. Each IsQuiet (turn_actions_in t)) (keeps_turns IsQuiet) alphabet I B k machine steps ds
-      (λ i names earlier owner. (known, (λ m b. quiet_put (scope_behind k names earlier owner) own m (quiet i m b)))) events e
+      (λ i names earlier owner. (known, (λ m b. quiet_put (scope_behind k names earlier owner) own m (quiet i m b)))) barred events e

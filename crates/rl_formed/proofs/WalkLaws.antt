@@ -13,14 +13,15 @@ use Rattle.rl_automata.specs.declared.tree.Label.TheVariants.{Action, Prior}
 use Rattle.rl_types.specs.KeyRange.{Range}
 use Rattle.rl_automata.specs.Nodes as n
 use Rattle.rl_automata.specs.Nodes.{Node}
-use Rattle.rl_model.specs.Counts.{actions_in, turn_action, turn_actions_in}
+use Rattle.rl_automata.specs.Scans.{Pattern}
+use Rattle.rl_model.specs.Counts.{actions_in, turn_action, turn_actions_in, trees_of}
 use Rattle.rl_rewrite.specs.declared.counts.Counts.{Counts}
 use Rattle.rl_rewrite.specs.declared.layers.Layer.{Layer}
 use Rattle.rl_rewrite.specs.declared.layers.Layer.TheVariants as layer
 use Rattle.rl_rewrite.specs.Plain as p
-use Rattle.rl_rewrite.specs.Plain.{Plain, Pairing, Guard}
-use Rattle.rl_rewrite.specs.Walk.{Placed, Walk, walk, around, first_layers, layer_of, is_first, layer_node, layered, counted, has_copies, paired, pair_node, row, row_behind, star, optional, single, guarded_right, guarded_left, new_name, with_new_name, stamped, left_value, right_value, conditions_before}
-use Rattle.rl_form.proofs.Lists.{Each, each_append}
+use Rattle.rl_rewrite.specs.Plain.{Plain, Pairing, Guard, PlainPattern, PlainValue}
+use Rattle.rl_rewrite.specs.Walk.{Placed, Walk, walk, walk_patterns, walk_value, around, first_layers, layer_of, is_first, layer_node, layered, counted, has_copies, paired, pair_node, row, row_behind, star, optional, single, guarded_right, guarded_left, new_name, with_new_name, stamped, left_value, right_value, conditions_before}
+use Rattle.rl_form.proofs.Lists.{Each, each_append, each_map}
 
 -- what is asked of actions in transitions, of actions in states, and of conditions
 pub record Asked : Type 1 where
@@ -213,17 +214,44 @@ module _ (A : Asked) (InTree : Node → Type 0) (kept : IsKeptBy A InTree) where
       let x = walk_in a (first_layers ps c).1 h.0 l.conditions in
       around_in ps (first_layers ps c).0 at (walk a (first_layers ps c).1).0 (walk a (first_layers ps c).1).1 h.1 l.layers x.tree x.conditions
 
-  -- such a tree, and such conditions
-  pub walk_holds : (q : Plain) (c : Counts) → HoldsOf A q → InConditions A c.conditions → InTree (walk q c).0.node × InConditions A (walk q c).1.conditions
-  walk_holds q c h k = let r = walk_in q c h k in (r.tree, r.conditions)
+  -- ---- entries
+
+  abbrev HoldsOfPatterns : List PlainPattern → Type 0
+  HoldsOfPatterns qs = Each (λ (q : PlainPattern). HoldsOf A q.plain) qs
+
+  -- it holds of the expression, or of those of all patterns
+  abbrev pub HoldsOfValue : PlainValue → Type 0
+  HoldsOfValue (p.Expression q) = HoldsOf A q
+  HoldsOfValue (p.Scanner qs at) = HoldsOfPatterns qs
+
+  abbrev InPatterns : List Pattern → Type 0
+  InPatterns ps = Each (λ (q : Pattern). InTree q.tree) ps
+
+  patterns_in : (qs : List PlainPattern) (c : Counts) → HoldsOfPatterns qs → InConditions A c.conditions → InPatterns (walk_patterns qs c).0.patterns × InConditions A (walk_patterns qs c).1.conditions
+  patterns_in [] c h k = (tt, k)
+  patterns_in (q ∷ qs) c h k =
+      let x = walk_in q.plain c h.0 k in
+      let y = patterns_in qs (walk q.plain c).1 h.1 x.conditions in
+      ((x.tree, y.0), y.1)
+
+  -- such trees, and such conditions
+  pub value_holds : (v : PlainValue) (c : Counts) → HoldsOfValue v → InConditions A c.conditions → Each InTree (trees_of (walk_value v c).0.root) × InConditions A (walk_value v c).1.conditions
+  value_holds (p.Expression q) c h k = let r = walk_in q c h k in ((r.tree, tt), r.conditions)
+  value_holds (p.Scanner qs at) c h k =
+      let r = patterns_in qs c h k in
+      (each_map InTree (λ (x : Pattern). x.tree) (walk_patterns qs c).0.patterns r.0, r.1)
 
 -- ---- actions
 
+-- each action that is embedded is such a one, and each condition is of its own kind
+abbrev pub embeds_asked : (ℕ → Type 0) → (ℕ → Type 0) → Asked
+embeds_asked R C = record { OfAction = R; OfState = λ kind x. R x; OfCondition = C }
+
 -- each action is such a one, wherever it is embedded
 abbrev pub all_asked : (ℕ → Type 0) → Asked
-all_asked R = record { OfAction = R; OfState = λ kind x. R x; OfCondition = R }
+all_asked R = embeds_asked R R
 
-module _ (R : ℕ → Type 0) where
+module _ (R C : ℕ → Type 0) where
   abbrev InActions : Node → Type 0
   InActions x = Each R (actions_in x)
 
@@ -233,7 +261,7 @@ module _ (R : ℕ → Type 0) where
   pair_actions p.Less x y h g = each_append R (actions_in x) (actions_in y) h g
   pair_actions p.Then x y h g = each_append R (actions_in x) (actions_in y) h g
 
-  step_actions : (t : Transitions) (l : Label) (x : Node) → InLabel (all_asked R) l → InActions x → InActions (layer_node (layer.Step t l) x)
+  step_actions : (t : Transitions) (l : Label) (x : Node) → InLabel (embeds_asked R C) l → InActions x → InActions (layer_node (layer.Step t l) x)
   step_actions t.Entering (Action s a) x h g = (h, g)
   step_actions t.Entering (Prior s u v) x h g = g
   step_actions t.Finishing (Action s a) x h g = (h, g)
@@ -243,12 +271,12 @@ module _ (R : ℕ → Type 0) where
   step_actions t.Leaving (Action s a) x h g = (h, g)
   step_actions t.Leaving (Prior s u v) x h g = g
 
-  layer_actions : (l : Layer) (x : Node) → InLayer (all_asked R) l → InActions x → InActions (layer_node l x)
+  layer_actions : (l : Layer) (x : Node) → InLayer (embeds_asked R C) l → InActions x → InActions (layer_node l x)
   layer_actions (layer.Step t l) x h g = step_actions t l x h g
   layer_actions (layer.State class kind stamp action) x h g = (h, g)
   layer_actions (layer.When condition) x h g = g
 
-  pub keeps_actions : IsKeptBy (all_asked R) (λ x. Each R (actions_in x))
+  pub keeps_actions : IsKeptBy (embeds_asked R C) (λ x. Each R (actions_in x))
   keeps_actions = record {
     null = tt;
     nothing = tt;

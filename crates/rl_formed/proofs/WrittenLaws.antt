@@ -14,8 +14,9 @@ use Rattle.rl_draft.specs.declared.draft.Definition.{Definition}
 use Rattle.rl_names.specs.Drafts.{names_of, scope_behind, definition_read, definition_behind, definitions_by, definitions_behind, definitions_of}
 use Rattle.rl_names.specs.Expressions.{Scope}
 use Rattle.rl_names.specs.Frames.{is_of, machine_by, machine_behind, machines_of}
-use Rattle.rl_rewrite.specs.Plain.{Plain}
-use Rattle.rl_rewrite.specs.Entries.{Made, Meaning, meanings_of, is_entry, entry, entries, made_by, conditions_by}
+use Rattle.rl_types.specs.declared.alphabet.Alphabet.{Alphabet}
+use Rattle.rl_rewrite.specs.Plain.{Plain, value_plain}
+use Rattle.rl_rewrite.specs.Entries.{Made, Meaning, meanings_behind, meanings_in, is_entry, entry, entries, made_by, conditions_by}
 use Rattle.rl_form.proofs.Lists.{Each, each_append}
 use Rattle.rl_formed.proofs.ResultLaws.{ok_then, same_ok, not_refused, along_keeps}
 use Rattle.rl_formed.proofs.NameLaws.{read_name}
@@ -90,10 +91,9 @@ module _ (P : List ℕ → Type 0) where
   definitions_named k machine steps ds p e =
       along_keeps (Each HasName) HoldsOfStep (definitions_behind k machine) (λ earlier s t q f h. case_named (is_of machine s) k s.statement earlier t q f h) [] steps ds p e tt
 
-  meanings_named : (ds : List Definition) (ps : List Plain) → Each HasName ds → Each (λ (m : Meaning). P m.name) (meanings_of ds ps)
-  meanings_named [] ps h = tt
-  meanings_named (d ∷ ds) [] h = tt
-  meanings_named (d ∷ ds) (p ∷ ps) h = (h.0, meanings_named ds ps h.1)
+  meanings_named : (alphabet : Alphabet) (known : List Plain) (ds : List Definition) → Each HasName ds → Each (λ (m : Meaning). P m.name) (meanings_behind alphabet known ds)
+  meanings_named alphabet known [] h = tt
+  meanings_named alphabet known (d ∷ ds) h = (h.0, meanings_named alphabet (known ++ value_plain alphabet known d.value ∷ []) ds h.1)
 
   made_case : (b : Bool) (cs : List ActionId) (m : Meaning) → P m.name → Each (λ (x : Made). P x.name) (cond b (entry cs m ∷ []) [])
   made_case true cs m h = (h, tt)
@@ -104,5 +104,5 @@ module _ (P : List ℕ → Type 0) where
   entries_named cs (m ∷ ms) h =
       each_append (λ (x : Made). P x.name) (made_by cs m) (entries (conditions_by cs m) ms) (made_case (is_entry m.sign) cs m h.0) (entries_named (conditions_by cs m) ms h.1)
 
-  pub all_named : (k : Scope) (machine : List ℕ) (steps : List Step) (ds : List Definition) (ps : List Plain) → Each HoldsOfStep steps → definitions_of k machine steps ≡ Ok ds → Each (λ (x : Made). P x.name) (entries [] (meanings_of ds ps))
-  all_named k machine steps ds ps p e = entries_named [] (meanings_of ds ps) (meanings_named ds ps (definitions_named k machine steps ds p e))
+  pub all_named : (k : Scope) (machine : List ℕ) (steps : List Step) (ds : List Definition) (alphabet : Alphabet) → Each HoldsOfStep steps → definitions_of k machine steps ≡ Ok ds → Each (λ (x : Made). P x.name) (entries [] (meanings_in alphabet ds))
+  all_named k machine steps ds alphabet p e = entries_named [] (meanings_in alphabet ds) (meanings_named alphabet [] ds (definitions_named k machine steps ds p e))

@@ -13,19 +13,18 @@ use Rattle.rl_automata.specs.Refused.{AreDifferent, sets_in}
 use Rattle.rl_model.specs.declared.spec.ActionDef.{ActionDef}
 use Rattle.rl_model.specs.declared.spec.Write.{Write}
 use Rattle.rl_code.specs.Reading.{IsBlock, IsReadAs}
-use Rattle.rl_model.specs.Counts.{actions_in, turn_actions_in, trees_of}
+use Rattle.rl_model.specs.Counts.{actions_in, turn_actions_in, trees_of, pattern_trees, token_actions}
 use Rattle.rl_model.specs.Specification.{action_of}
-use Rattle.rl_model.specs.WellFormed.{IsNumber, IsInAlphabet, HasNoStatement, outer_statements}
+use Rattle.rl_model.specs.WellFormed.{IsNumber, IsInAlphabet, HasNoStatement, HasPatterns, outer_statements}
 use Rattle.rl_grammar.specs.declared.step.Step.{Step}
 use Rattle.rl_draft.specs.declared.draft.Draft.{Draft}
 use Rattle.rl_names.specs.Checks.{leaves_fault}
 use Rattle.rl_names.specs.Drafts.{draft_of}
-use Rattle.rl_names.specs.Events.{Event, union_events}
+use Rattle.rl_names.specs.Events.{Event, value_events}
 use Rattle.rl_names.specs.Events as event
 use Rattle.rl_names.specs.Frames.{machines_of}
 use Rattle.rl_names.specs.Names.{names_fault}
 use Rattle.rl_rewrite.specs.Entries.{Made, meanings, entries, all_conditions}
-use Rattle.rl_form.specs.Form.{IsPlain}
 
 -- the names of its entries, in order
 abbrev pub entry_names : Draft → List (List ℕ)
@@ -59,9 +58,17 @@ HasOwnActions draft = AreDifferent (map (λ (a : ActionDef). a.name) draft.actio
 abbrev pub HasOwnEntries : Draft → Type 0
 HasOwnEntries draft = AreDifferent (map (λ (m : Made). m.name) (entries [] (meanings draft)))
 
--- no entry is a scanner
-abbrev pub HasPlainEntries : Draft → Type 0
-HasPlainEntries draft = All (λ (m : Made). IsPlain m.root) (entries [] (meanings draft))
+-- each entry that is a scanner has a pattern
+abbrev pub HasPatternsIn : Draft → Type 0
+HasPatternsIn draft = All (λ (m : Made). HasPatterns m.root) (entries [] (meanings draft))
+
+-- the actions of its tokens are actions of the machine
+abbrev pub HasOwnTokens : Draft → Type 0
+HasOwnTokens draft = All (λ (m : Made). All (IsNumber (length draft.actions)) (token_actions m.root)) (entries [] (meanings draft))
+
+-- no action that a pattern embeds has a statement
+abbrev pub HasQuietPatterns : Draft → Type 0
+HasQuietPatterns draft = All (λ (m : Made). All (λ (t : Node). All (IsQuiet draft) (actions_in t)) (pattern_trees m.root)) (entries [] (meanings draft))
 
 abbrev pub HasFewActions : Draft → Type 0
 HasFewActions draft = length draft.actions ≤ 65535
@@ -99,7 +106,7 @@ IsUsedAsWritten _ = Unit {0}
 abbrev pub IsWritten : Statement → Type 0
 IsWritten (statement.Machine m) = IsTrue (is_name m.name.text)
 IsWritten (statement.Action a) = IsTrue (is_name a.name.text) × IsBlock a.code.text
-IsWritten (statement.Definition d) = IsTrue (is_name d.name.text) × All IsUsedAsWritten (union_events d.value)
+IsWritten (statement.Definition d) = IsTrue (is_name d.name.text) × All IsUsedAsWritten (value_events d.value)
 IsWritten _ = Unit {0}
 
 abbrev pub AreWritten : List Step → Type 0
@@ -141,7 +148,7 @@ IsUsedIn count _ = Unit {0}
 -- its code, and the statement itself where it is a `write`, stand in one of so many files
 abbrev pub StandsIn : ℕ → Statement → Type 0
 StandsIn count (statement.Action a) = a.code.place.file < count
-StandsIn count (statement.Definition d) = All (IsUsedIn count) (union_events d.value)
+StandsIn count (statement.Definition d) = All (IsUsedIn count) (value_events d.value)
 StandsIn count (statement.Write w) = w.start.file < count
 StandsIn count _ = Unit {0}
 

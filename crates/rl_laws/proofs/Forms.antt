@@ -11,7 +11,7 @@ use Rattle.rl_lexical.specs.Bytes.{newline, dash, backslash, close_bracket, care
 use Rattle.rl_lexical.specs.Forms.{form_behind, form_behind_escape, form_after, form_after_backslash, set_item_form}
 use Rattle.rl_lexical.specs.Modes.{mode_after, is_read}
 use Rattle.rl_leaves.specs.declared.text.Character.{Character}
-use Rattle.rl_leaves.specs.Texts.{character, before, characters, is_plain}
+use Rattle.rl_leaves.specs.Texts.{before, characters, is_plain}
 use Rattle.rl_laws.specs.Written.{plain, IsMember}
 
 -- ---- what characters make of a form

@@ -9,7 +9,7 @@ use Rattle.rl_sets.specs.Sets.{In, joined}
 use Rattle.rl_sets.proofs.SetLaws.{In-append_left, In-append_right, In-append_cases, In-joined_from, In-map_from, ascending_same}
 use Rattle.rl_labels.specs.declared.priors.Prior.{Prior}
 use Rattle.rl_labels.specs.declared.carry.Carry.{Carry}
-use Rattle.rl_labels.specs.Labels.{prior_cmp, outranks, table_of, IsTable, newer, lead, leading, entry_at}
+use Rattle.rl_labels.specs.Labels.{prior_cmp, outranks, table_of, newer, lead, leading, entry_at}
 use Rattle.rl_labels.proofs.LabelOrders.{prior_order}
 use Rattle.rl_labels.proofs.TableLaws.{IsTable-lead, IsTable-table_of, lead_at}
 use Rattle.rl_laws.specs.Priorities.{led}

@@ -1,8 +1,7 @@
 -- A walk gives each priority a stamp of its own.
-use Rattle.std.proofs.Common.{◌≡◌, ℕ, zero, suc, ◌+◌, ◌-◌, ◌≤◌, Bool, true, false, cond, List, [], ◌∷◌, ◌++◌, ◌⊎◌, inl, inr, Option, Some, None, replicate, refl, sym, ◌∙◌, ap, subst, arith}
+use Rattle.std.proofs.Common.{◌≡◌, ℕ, zero, suc, ◌+◌, ◌-◌, ◌≤◌, Bool, true, false, cond, List, [], ◌∷◌, ◌++◌, ◌⊎◌, inl, inr, Option, Some, None, map, replicate, refl, sym, ◌∙◌, ap, subst, arith}
 use Rattle.std.specs.Prelude.{pos, All}
 use Rattle.std.specs.List.{flat_map}
-use Rattle.std.proofs.lemmas.List.{append-nil}
 use Rattle.std.proofs.lemmas.List.Elements.{All-nil, All-cons, All-append}
 use Rattle.rl_types.specs.declared.numbers.Place.{Place}
 use Rattle.rl_types.specs.declared.numbers.ActionId.{ActionId}
@@ -12,6 +11,7 @@ use Rattle.rl_labels.specs.declared.priors.Prior.{Prior}
 use Rattle.rl_automata.specs.declared.tree.Label.TheVariants as label
 use Rattle.rl_automata.specs.Nodes as n
 use Rattle.rl_automata.specs.Nodes.{Node, carry_of}
+use Rattle.rl_automata.specs.Scans.{Pattern}
 use Rattle.rl_model.specs.Counts.{trees_of}
 use Rattle.rl_draft.specs.declared.expression.Put.{Put}
 use Rattle.rl_draft.specs.declared.expression.Put.TheVariants as put
@@ -20,8 +20,8 @@ use Rattle.rl_rewrite.specs.declared.counts.Counts.{Counts}
 use Rattle.rl_rewrite.specs.declared.layers.Layer.{Layer}
 use Rattle.rl_rewrite.specs.declared.layers.Layer.TheVariants as layer
 use Rattle.rl_rewrite.specs.Plain as p
-use Rattle.rl_rewrite.specs.Plain.{Plain, Pairing, Guard}
-use Rattle.rl_rewrite.specs.Walk.{Placed, Walk, walk, begun, around, first_layers, layer_of, is_first, layer_node, layered, counted, has_copies, paired, pair_node, row, row_behind, star, optional, single, guarded_right, guarded_left, left_value, right_value, entered, names_before, new_name, with_new_name, stamped}
+use Rattle.rl_rewrite.specs.Plain.{Plain, Pairing, Guard, PlainPattern, PlainValue}
+use Rattle.rl_rewrite.specs.Walk.{Placed, PlacedPatterns, PlacedRoot, Walk, walk, walk_patterns, walk_value, begun, around, first_layers, layer_of, is_first, layer_node, layered, counted, has_copies, paired, pair_node, row, row_behind, star, optional, single, guarded_right, guarded_left, left_value, right_value, entered, names_before, new_name, with_new_name, stamped}
 use Rattle.rl_rewrite.specs.Entries.{Made, Meaning, meanings, entries, entry, is_entry, made_by, conditions_by}
 use Rattle.rl_laws.specs.Ties.{priors_in, StampsTell, AreAmong, StampsTellPriorities}
 
@@ -289,16 +289,43 @@ walk_given (p.Series a qs at) = λ c before k.
 
 -- ---- entries
 
-pub walk_tells : (g : Plain) (conditions : List ActionId) → StampsTell (priors_in (walk g (begun conditions)).0.node)
-walk_tells g conditions =
-    let r = walk_given g (begun conditions) [] (record { low = λ q i. absurd i; tells = λ a b i j e. absurd i }) in
-    λ a b i j e. r.is.tells a b (r.of a i) (r.of b j) e
+abbrev trees : List Pattern → List Node
+trees ps = map (λ (x : Pattern). x.tree) ps
+
+abbrev PatternsGiven : List Prior → PlacedPatterns × Counts → Type 0
+PatternsGiven before r = Given before r.1.stamp (λ log. AreAmong (flat_map priors_in (trees r.0.patterns)) log)
+
+-- the log goes on from pattern to pattern
+patterns_given : (qs : List PlainPattern) (c : Counts) (before : List Prior) → IsLog c.stamp before → PatternsGiven before (walk_patterns qs c)
+patterns_given [] c before k = same before c.stamp c.stamp (omega arith) k (none before)
+patterns_given (q ∷ qs) c before k =
+    let x = walk q.plain c in
+    let h = walk_given q.plain c before k in
+    let y = walk_patterns qs x.1 in
+    let r = patterns_given qs x.1 h.log h.is in
+    record {
+      log = r.log;
+      keeps = λ z i. r.keeps z (h.keeps z i);
+      is = r.is;
+      of = both r.log (priors_in x.0.node) (flat_map priors_in (trees y.0.patterns)) (more h.log r.log x.0.node r.keeps h.of) r.of;
+    }
+
+abbrev RootGiven : List Prior → PlacedRoot × Counts → Type 0
+RootGiven before r = Given before r.1.stamp (λ log. AreAmong (flat_map priors_in (trees_of r.0.root)) log)
+
+root_given : (v : PlainValue) (c : Counts) (before : List Prior) → IsLog c.stamp before → RootGiven before (walk_value v c)
+root_given (p.Expression e) c before k =
+    let h = walk_given e c before k in
+    record { log = h.log; keeps = h.keeps; is = h.is; of = both h.log (priors_in (walk e c).0.node) [] h.of (none h.log) }
+root_given (p.Scanner qs at) c before k = let h = patterns_given qs c before k in record { log = h.log; keeps = h.keeps; is = h.is; of = h.of }
 
 abbrev Tells : Made → Type 0
 Tells m = StampsTell (flat_map priors_in (trees_of m.root))
 
 entry_tells : (cs : List ActionId) (m : Meaning) → Tells (entry cs m)
-entry_tells cs m = subst StampsTell (sym (append-nil (priors_in (walk m.plain (begun cs)).0.node))) (walk_tells m.plain cs)
+entry_tells cs m =
+    let r = root_given m.value (begun cs) [] (record { low = λ q i. absurd i; tells = λ a b i j e. absurd i }) in
+    λ a b i j e. r.is.tells a b (r.of a i) (r.of b j) e
 
 made_tells : (b : Bool) (cs : List ActionId) (m : Meaning) → All Tells (cond b (entry cs m ∷ []) [])
 made_tells true cs m = All-cons Tells (entry cs m) [] (entry_tells cs m) (All-nil Tells)

@@ -16,8 +16,9 @@ use Rattle.rl_automata.specs.Auto.{Auto, set_auto, point_auto, both_auto, cat_au
 use Rattle.rl_automata.specs.Nodes as n
 use Rattle.rl_automata.specs.Nodes.{Node, carry_of}
 use Rattle.rl_automata.specs.Marks.{Marks, auto}
+use Rattle.rl_automata.specs.Scans.{Pattern, PatternMarks, Confs, all_carried, kept_confs, kept_carries, token_out, scan_auto}
 use Rattle.rl_automata.proofs.Congruence.{AllIn, some_in, none_in}
-use Rattle.rl_laws.specs.Ties.{priors_in, AreAmong, IsTableOf, ExpressionsCarryTables}
+use Rattle.rl_laws.specs.Ties.{priors_in, AreAmong, IsTableOf, ExpressionsCarryTables, ScannersCarryTables}
 use Rattle.rl_laws.proofs.Greatest.{from_table}
 
 module _ (ps : List Prior) where
@@ -239,5 +240,38 @@ module _ (ps : List Prior) where
   tree_fine (n.Mark a class kind s x) k h = let F = tree_fine a k h in record { step = F.step; out = F.out }
   tree_fine (n.When a c) k h = when_fine (tree_fine a k h) c
 
+  -- ---- scanners
+
+  abbrev PatternsEmbedded : List Pattern → Type 0
+  PatternsEmbedded qs = Embedded (flat_map priors_in (map (λ (q : Pattern). q.tree) qs))
+
+  first_of : (q : Pattern) (qs : List Pattern) → PatternsEmbedded (q ∷ qs) → Embedded (priors_in q.tree)
+  first_of q qs h = left_of (priors_in q.tree) (flat_map priors_in (map (λ (x : Pattern). x.tree) qs)) h
+
+  others_of : (q : Pattern) (qs : List Pattern) → PatternsEmbedded (q ∷ qs) → PatternsEmbedded qs
+  others_of q qs h = right_of (priors_in q.tree) (flat_map priors_in (map (λ (x : Pattern). x.tree) qs)) h
+
+  kept_by : (qs : List Pattern) (k : PatternMarks qs) → PatternsEmbedded qs → (all : List Carry) (c : Confs qs) (l : Letter) → AllIn Fine (kept_carries qs k all c l)
+  kept_by [] k h all c l = λ d i. absurd i
+  kept_by (q ∷ qs) k h all c l =
+      let ms = part_moves (auto q.tree k.0) l c.0 in
+      append_in (carries (kept all ms)) (kept_carries qs k.1 all c.1 l)
+      (carries_fine (kept all ms) (kept_fine all ms (part_fine (tree_fine q.tree k.0 (first_of q qs h)) c.0 l))) (kept_by qs k.1 (others_of q qs h) all c.1 l)
+
+  token_fine : (qs : List Pattern) (k : PatternMarks qs) → PatternsEmbedded qs → (c : Confs qs) → Fine (token_out qs k c)
+  token_fine [] k h c = none_fine
+  token_fine (q ∷ qs) k h c =
+      cond_fine (on_part false (auto q.tree k.0).final c.0) (on_part no_carry (auto q.tree k.0).out c.0) (token_out qs k.1 c.1)
+      (part_out (tree_fine q.tree k.0 (first_of q qs h)) c.0) (token_fine qs k.1 (others_of q qs h) c.1)
+
+  scan_fine : (qs : List Pattern) (k : PatternMarks qs) → PatternsEmbedded qs → IsFine (scan_auto qs k)
+  scan_fine qs k h = record {
+    step = λ c l m e. step_to_fine (kept_confs qs k (all_carried qs k c l) c l) (kept_carries qs k (all_carried qs k c l) c l) m (kept_by qs k h (all_carried qs k c l) c l) e;
+    out = token_fine qs k h;
+  }
+
 pub carry_tables : ExpressionsCarryTables
 carry_tables t k = let F = tree_fine (priors_in t) t k (λ p i. i) in record { step = F.step; out = F.out }
+
+pub scanners_carry_tables : ScannersCarryTables
+scanners_carry_tables qs k = let F = scan_fine (flat_map priors_in (map (λ (q : Pattern). q.tree) qs)) qs k (λ p i. i) in record { step = F.step; out = F.out }

@@ -9,8 +9,10 @@ use Rattle.rl_labels.specs.Labels.{IsTable}
 use Rattle.rl_labels.specs.Carries.{all_of}
 use Rattle.rl_automata.specs.declared.moves.Move.{Move}
 use Rattle.rl_automata.specs.Nodes as n
-use Rattle.rl_automata.specs.Nodes.{Node, Conf, carry_of}
+use Rattle.rl_automata.specs.Auto.{Auto}
+use Rattle.rl_automata.specs.Nodes.{Node, carry_of}
 use Rattle.rl_automata.specs.Marks.{Marks, auto}
+use Rattle.rl_automata.specs.Scans.{Pattern, PatternMarks, Scanner, scan_auto}
 use Rattle.rl_model.specs.Counts.{trees_of}
 use Rattle.rl_draft.specs.declared.draft.Draft.{Draft}
 use Rattle.rl_rewrite.specs.Entries.{Made, meanings, entries}
@@ -41,7 +43,7 @@ StampsTell ps = (p q : Prior) → In p ps → In q ps → p.stamp ≡ q.stamp �
 abbrev pub AreAmong : List Prior → List Prior → Type 0
 AreAmong ps qs = (p : Prior) → In p ps → In p qs
 
--- it is so within each entry of each draft
+-- it is so within each entry of each draft, also of a scanner's patterns together
 abbrev pub StampsTellPriorities : Type 0
 StampsTellPriorities =
     (draft : Draft) → All (λ (m : Made). StampsTell (flat_map priors_in (trees_of m.root))) (entries [] (meanings draft))
@@ -51,13 +53,18 @@ pub record IsTableOf (ps : List Prior) (table : List Prior) : Type 0 where
   pub is_table : IsTable table
   pub among : AreAmong table ps
 
--- each step and each configuration of an expression carries a table of the priorities that the expression embeds
-pub record CarriesTablesOf (t : Node) (k : Marks t) : Type 0 where
-  pub step : (c : Conf t) (l : Letter) (m : Move (Conf t)) → (auto t k).step c l ≡ Some m → IsTableOf (priors_in t) m.carry.table
-  pub out : (c : Conf t) → IsTableOf (priors_in t) ((auto t k).out c).table
+-- each step and each configuration of an automaton carries a table of these priorities
+pub record CarriesTablesOf {S : Type 0} (ps : List Prior) (A : Auto S) : Type 0 where
+  pub step : (c : S) (l : Letter) (m : Move S) → A.step c l ≡ Some m → IsTableOf ps m.carry.table
+  pub out : (c : S) → IsTableOf ps (A.out c).table
 
+-- of the priorities that the expression embeds
 abbrev pub ExpressionsCarryTables : Type 0
-ExpressionsCarryTables = (t : Node) (k : Marks t) → CarriesTablesOf t k
+ExpressionsCarryTables = (t : Node) (k : Marks t) → CarriesTablesOf (priors_in t) (auto t k)
+
+-- of the priorities that the patterns of the scanner embed
+abbrev pub ScannersCarryTables : Type 0
+ScannersCarryTables = (patterns : List Pattern) (k : PatternMarks patterns) → CarriesTablesOf (flat_map priors_in (trees_of (Scanner patterns))) (scan_auto patterns k)
 
 -- of such priorities, what is carried together has the tables put over one another by `lead`
 abbrev pub JoinsLead : Type 0

@@ -1,7 +1,7 @@
 // Laws over the definitions.
 ghost use Rattle.rl_laws.specs.Priorities.{SurvivorsLeadAsOne, SurvivorsLeadInAnyOrder, SurvivorsLeadInTurn};
 ghost use Rattle.rl_laws.specs.Regular.{OneRegular, RegularsAreRead, RegularsAreTold};
-ghost use Rattle.rl_laws.specs.Ties.{ExpressionsCarryTables, JoinsLead, StampsTellPriorities};
+ghost use Rattle.rl_laws.specs.Ties.{ExpressionsCarryTables, JoinsLead, ScannersCarryTables, StampsTellPriorities};
 ghost use Rattle.rl_laws.specs.Written.{OneSet, SetsAreTold, SetsAreRead};
 
 /// Any number of tables that stay after a cut, put over one another by `Priors::lead`, are the table that `Priors::of`
@@ -12,13 +12,14 @@ pub fn survivors_lead_as_one()
     ensures in_turn { SurvivorsLeadInTurn }
 {}
 
-/// Within an entry two priorities with one stamp are one: they have one name and one value. Each step of an expression, and
-/// each configuration that is left, carries a table of priorities of this expression alone. And where stamps tell
-/// priorities apart, tables that are carried together come to the same as each put over the next by `Priors::lead`. So no
-/// tie is ever left to a rule.
+/// Within an entry two priorities with one stamp are one: they have one name and one value, also where they stand in two
+/// patterns of a scanner. Each step of an expression or a scanner, and each configuration that is left, carries a table of
+/// priorities of this expression or these patterns alone. And where stamps tell priorities apart, tables that are carried
+/// together come to the same as each put over the next by `Priors::lead`. So no tie is ever left to a rule.
 pub fn joins_are_lead()
     ensures stamps { StampsTellPriorities }
     ensures tables { ExpressionsCarryTables }
+    ensures scanners { ScannersCarryTables }
     ensures joins { JoinsLead }
 {}
 

@@ -1,5 +1,5 @@
 -- What an expression uses, one level at a time.
-use Rattle.std.proofs.Common.{◌≡◌, List, [], ◌∷◌, ◌++◌, map, refl, sym, ap, ◌∙◌, append_assoc}
+use Rattle.std.proofs.Common.{◌≡◌, ℕ, ◌+◌, ◌<◌, List, [], ◌∷◌, ◌++◌, length, map, drop, get_or, refl, sym, ap, ◌∙◌, append_assoc}
 use Rattle.std.specs.List.{flat_map}
 use Rattle.rl_grammar.specs.declared.syntax.Operand.TheOpen as operand
 use Rattle.rl_grammar.specs.declared.syntax.Operand.TheOpen.{Operand-F}
@@ -15,14 +15,15 @@ use Rattle.rl_grammar.specs.declared.syntax.Concatenation.{Concatenation, out-Co
 use Rattle.rl_grammar.specs.declared.syntax.ConcatenationPart.{ConcatenationPart, fold_out-ConcatenationPart}
 use Rattle.rl_grammar.specs.declared.syntax.Embedded.{Embedded, out-Embedded, fold_out-Embedded}
 use Rattle.rl_grammar.specs.declared.syntax.Negated.{Negated, out-Negated, fold_out-Negated}
-use Rattle.rl_grammar.specs.declared.syntax.Pattern.{Pattern, out-Pattern, fold_out-Pattern}
+use Rattle.rl_grammar.specs.declared.syntax.Pattern.{Pattern}
 use Rattle.rl_grammar.specs.declared.syntax.Repeated.{Repeated, out-Repeated, fold_out-Repeated}
-use Rattle.rl_grammar.specs.declared.syntax.Scanner.{Scanner, out-Scanner, fold_out-Scanner}
+use Rattle.rl_grammar.specs.declared.syntax.Scanner.{Scanner, fold_out-Scanner}
 use Rattle.rl_grammar.specs.declared.syntax.Union.{Union, out-Union, fold_out-Union}
 use Rattle.rl_grammar.specs.declared.syntax.UnionPart.{UnionPart, fold_out-UnionPart}
 use Rattle.rl_names.specs.Events as e
 use Rattle.rl_names.specs.Events.{Found}
-use Rattle.rl_names.specs.Uses.{concatenation_part_uses, union_part_uses, scanner_uses}
+use Rattle.rl_names.proofs.GroupLaws.{at_head}
+use Rattle.rl_names.specs.Uses.{concatenation_part_uses, union_part_uses}
 
 all_mapped : {X : Type 0} (f : X → Found) (xs : List X) → e.all (map f xs) ≡ flat_map f xs
 all_mapped f [] = refl
@@ -43,7 +44,7 @@ layer_events (operand.Set w) = e.Leaf (leaf.Set w) ∷ []
 layer_events (operand.RegularExpression w) = e.Leaf (leaf.RegularExpression w) ∷ []
 layer_events (operand.Name w) = e.Name w ∷ []
 layer_events (operand.Group opening inner closing) = e.union_events inner
-layer_events (operand.Scanner s) = e.scanner_events s
+layer_events (operand.Scanner s) = []
 
 union_is_all : (x : Union) → e.union_events x ≡ e.concatenation_events (out-Union x).first ++ flat_map e.union_part_events (out-Union x).rest
 unfolding e.operand_events e.concatenation_events e.concatenation_part_events e.embedded_events e.negated_events e.pattern_events e.repeated_events e.scanner_events e.union_events e.union_part_events
@@ -86,13 +87,9 @@ embedded_is x =
     embedded_is_one x
     ∙ ap (λ z. z ++ flat_map e.embedding_events (out-Embedded x).embeddings) (repeated_is (out-Embedded x).operand ∙ negated_is (out-Repeated (out-Embedded x).operand).operand)
 
-pub pattern_is : (x : Pattern) → e.pattern_events x ≡ e.union_events (out-Pattern x).value ++ e.token_events (out-Pattern x).action
+scanner_is : (x : Scanner) → e.scanner_events x ≡ []
 unfolding e.operand_events e.concatenation_events e.concatenation_part_events e.embedded_events e.negated_events e.pattern_events e.repeated_events e.scanner_events e.union_events e.union_part_events
-pattern_is x = fold_out-Pattern Found Found Found Found Found Found Found Found Found Found e.operand_step e.concatenation_step e.concatenation_part_step e.embedded_step e.negated_step e.pattern_step e.repeated_step e.scanner_step e.union_step e.union_part_step x
-
-pub scanner_is : (x : Scanner) → e.scanner_events x ≡ e.Scan (out-Scanner x).opening ∷ scanner_uses x
-unfolding e.operand_events e.concatenation_events e.concatenation_part_events e.embedded_events e.negated_events e.pattern_events e.repeated_events e.scanner_events e.union_events e.union_part_events
-scanner_is x = fold_out-Scanner Found Found Found Found Found Found Found Found Found Found e.operand_step e.concatenation_step e.concatenation_part_step e.embedded_step e.negated_step e.pattern_step e.repeated_step e.scanner_step e.union_step e.union_part_step x ∙ ap (λ z. e.Scan (out-Scanner x).opening ∷ (e.pattern_events (out-Scanner x).first ++ z)) (all_mapped e.pattern_events (out-Scanner x).rest)
+scanner_is x = fold_out-Scanner Found Found Found Found Found Found Found Found Found Found e.operand_step e.concatenation_step e.concatenation_part_step e.embedded_step e.negated_step e.pattern_step e.repeated_step e.scanner_step e.union_step e.union_part_step x
 
 layer_is : (x : Layer) → e.operand_step (map-Operand Operand Concatenation ConcatenationPart Embedded Negated Pattern Repeated Scanner Union UnionPart Found Found Found Found Found Found Found Found Found Found e.operand_events e.concatenation_events e.concatenation_part_events e.embedded_events e.negated_events e.pattern_events e.repeated_events e.scanner_events e.union_events e.union_part_events x) ≡ layer_events x
 layer_is (operand.Literal w) = refl
@@ -102,7 +99,7 @@ layer_is (operand.Set w) = refl
 layer_is (operand.RegularExpression w) = refl
 layer_is (operand.Name w) = refl
 layer_is (operand.Group opening inner closing) = refl
-layer_is (operand.Scanner s) = refl
+layer_is (operand.Scanner s) = scanner_is s
 
 pub operand_is : (x : Operand) → e.operand_events x ≡ layer_events (out-Operand x)
 unfolding e.operand_events e.concatenation_events e.concatenation_part_events e.embedded_events e.negated_events e.pattern_events e.repeated_events e.scanner_events e.union_events e.union_part_events
@@ -131,10 +128,17 @@ name_leaf o w is = sym (ap e.operand_events is ∙ (operand_is (leaf.Name w) ∙
 pub group_inside : (o : Operand) (opening : Place) (inner : Union) (closing : Place) → o ≡ leaf.Group opening inner closing → e.union_events inner ≡ e.operand_events o
 group_inside o opening inner closing is = sym (ap e.operand_events is ∙ (operand_is (leaf.Group opening inner closing) ∙ ap layer_events (outs-Group opening inner closing)))
 
-pub scanner_inside : (o : Operand) (s : Scanner) → o ≡ leaf.Scanner s → e.scanner_events s ≡ e.operand_events o
+pub scanner_inside : (o : Operand) (s : Scanner) → o ≡ leaf.Scanner s → [] ≡ e.operand_events o
 scanner_inside o s is = sym (ap e.operand_events is ∙ (operand_is (leaf.Scanner s) ∙ ap layer_events (outs-Scanner s)))
 
 -- ---- parts one behind another
 
 pub two_parts : (old mid a b more whole : Found) → mid ≡ old ++ a → b ≡ more → whole ≡ a ++ more → mid ++ b ≡ old ++ whole
 two_parts old mid a b more whole p q r = ap (λ z. z ++ b) p ∙ (ap (λ z. (old ++ a) ++ z) q ∙ (append_assoc old a more ∙ ap (λ z. old ++ z) (sym r)))
+
+-- a turn of a loop over parts
+pub part_more : {X : Type 0} (f : X → Found) (xs : List X) (i : ℕ) (x : X) (old new whole : Found) → i < length xs → x ≡ get_or xs i x → new ≡ old ++ f x
+    → old ++ flat_map f (drop i xs) ≡ whole → new ++ flat_map f (drop (i + 1) xs) ≡ whole
+part_more f xs i x old new whole less item more h =
+    ap (λ z. z ++ flat_map f (drop (i + 1) xs)) more
+    ∙ (append_assoc old (f x) (flat_map f (drop (i + 1) xs)) ∙ (ap (λ z. old ++ flat_map f z) (sym (at_head xs i x less item)) ∙ h))

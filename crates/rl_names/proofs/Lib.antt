@@ -11,3 +11,6 @@ pub mod GroupLaws
 pub mod EntryLaws
 pub mod LeafLaws
 pub mod InstanceLaws
+pub mod EachLaws
+pub mod ReadingLaws
+pub mod FitLaws

@@ -1,16 +1,15 @@
 -- The names of steps that are checked one after another.
-use Rattle.std.proofs.Common.{◌≡◌, ℕ, ◌+◌, ◌<◌, ◌≤◌, cond, List, [], ◌∷◌, ◌++◌, length, take, drop, get_or, Option, None, refl, sym, ap, ◌∙◌, subst, arith, add-one, drop-cons}
+use Rattle.std.proofs.Common.{◌≡◌, ℕ, ◌+◌, ◌<◌, ◌≤◌, cond, List, [], ◌∷◌, ◌++◌, length, take, drop, fold, get_or, append_assoc, Option, None, refl, sym, ap, ◌∙◌, subst, arith, add-one, drop-cons}
 use Rattle.std.specs.List.{flat_map}
 use Rattle.std.specs.Str.{bytes_eq}
 use Rattle.std.proofs.Math.Seq.{take-suc}
 use Rattle.std.proofs.lemmas.List.{append-nil, drop_all}
-use Rattle.std.proofs.lemmas.Grind.{flat_map-append}
 use Rattle.rl_grammar.specs.declared.read_fault.ReadFault.{ReadFault}
 use Rattle.rl_grammar.specs.declared.read_fault.ReadFault.TheVariants as reason
 use Rattle.rl_names.specs.Answers.{or_else, Told}
-use Rattle.rl_names.specs.Names.{known, names_of, names_by, defined_by, action_by, written_by, statement_fault, step_fault, faults_behind, names_fault}
+use Rattle.rl_names.specs.Names.{Known, known, known_behind, behind, nothing, names_of, names_by, action_by, statement_fault, step_fault, faults_behind, names_fault}
 use Rattle.rl_names.specs.TableForms.{count_in}
-use Rattle.rl_names.specs.Tables.{seen, behind, IsNoted}
+use Rattle.rl_names.specs.Tables.{seen, IsNoted}
 use Rattle.rl_grammar.specs.declared.step.Step.{Step}
 use Rattle.rl_names.specs.declared.tables.Tables.{Tables}
 
@@ -20,15 +19,20 @@ pub record AreChecked (steps : List Step) (at : ℕ) (t : Tables) : Type 0 where
   pub counts : (x : List ℕ) → count_in x t.counts ≡ names_of x (take at steps)
   pub due : faults_behind (take at steps) (drop at steps) ≡ names_fault steps
 
-one_more : {A : Type 0} (f : Step → List A) (ss : List Step) (s : Step) → flat_map f (ss ++ s ∷ []) ≡ flat_map f ss ++ f s
-one_more f ss s = flat_map-append f ss (s ∷ []) ∙ ap (λ z. flat_map f ss ++ z) (append-nil (f s))
+pub fold_behind : {A B : Type 0} (f : B → A → B) (start : B) (xs : List A) (x : A) → fold f start (xs ++ x ∷ []) ≡ f (fold f start xs) x
+fold_behind f start [] x = refl
+fold_behind f start (y ∷ xs) x = fold_behind f (f start y) xs x
 
 known_more : (ss : List Step) (s : Step) → known (ss ++ s ∷ []) ≡ behind (known ss) s.machine s.statement
-known_more ss s =
-    let d = one_more (λ (s : Step). defined_by s.machine s.statement) ss s in
-    let a = one_more (λ (s : Step). action_by s.machine s.statement) ss s in
-    let w = one_more (λ (s : Step). written_by s.machine s.statement) ss s in
-    (λ j. record { defined = d j; actions = a j; written = w j })
+known_more ss s = fold_behind known_behind nothing ss s
+
+-- what is known of actions does not depend on expressions
+pub actions_known : (ss : List Step) → (known ss).actions ≡ flat_map (λ s. action_by s.machine s.statement) ss
+actions_known ss = from nothing ss
+  where
+    from : (k : Known) (ss : List Step) → (fold known_behind k ss).actions ≡ k.actions ++ flat_map (λ s. action_by s.machine s.statement) ss
+    from k [] = sym (append-nil k.actions)
+    from k (s ∷ ss) = from (known_behind k s) ss ∙ append_assoc k.actions (action_by s.machine s.statement) (flat_map (λ s. action_by s.machine s.statement) ss)
 
 names_more : (x : List ℕ) (ss : List Step) (s : Step) → names_of x (ss ++ s ∷ []) ≡ cond (bytes_eq x s.machine) (names_by s.statement) 0 + names_of x ss
 names_more x [] s = refl

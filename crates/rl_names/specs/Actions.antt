@@ -12,7 +12,7 @@ use Rattle.rl_model.specs.declared.spec.ActionDef.{ActionDef}
 use Rattle.rl_code.specs.Reading.{statements_in}
 use Rattle.rl_names.specs.Answers.{along}
 use Rattle.rl_names.specs.Entries.{entries_of}
-use Rattle.rl_names.specs.Events.{Event, union_events}
+use Rattle.rl_names.specs.Events.{Event, value_events}
 use Rattle.rl_names.specs.Events as event
 use Rattle.rl_names.specs.Frames.{is_of}
 use Rattle.rl_names.specs.Leaves.{fault_at}
@@ -36,7 +36,7 @@ action_used entries actions _ = actions
 
 abbrev pub actions_by : List (List ℕ) → List ActionDef → Statement → List ActionDef
 actions_by entries actions (statement.Action a) = actions ++ action_def entries a.name.text a.code ∷ []
-actions_by entries actions (statement.Definition d) = fold (action_used entries) actions (union_events d.value)
+actions_by entries actions (statement.Definition d) = fold (action_used entries) actions (value_events d.value)
 actions_by entries actions _ = actions
 
 abbrev pub actions_behind : List (List ℕ) → List ℕ → List ActionDef → Step → List ActionDef

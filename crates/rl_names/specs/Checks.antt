@@ -1,20 +1,17 @@
--- The faults of keys and of entries, and what is not built yet: the first of each in text order.
+-- The faults of keys and of entries: the first of them in text order.
 use Rattle.std.specs.Prelude.{ℕ, Bool, List, Option, Some, None, Result, Ok, Err}
 use Rattle.rl_types.specs.declared.alphabet.Alphabet.{Alphabet}
-use Rattle.rl_types.specs.declared.faults.FaultKind.TheVariants.{F20}
 use Rattle.rl_grammar.specs.declared.read_fault.ReadFault.{ReadFault}
 use Rattle.rl_grammar.specs.declared.syntax.Statement.{Statement}
 use Rattle.rl_grammar.specs.declared.syntax.Statement.TheVariants as statement
 use Rattle.rl_names.specs.Answers.{first_of}
 use Rattle.rl_names.specs.Codes.{entry_fault}
 use Rattle.rl_names.specs.Entries.{is_entry}
-use Rattle.rl_names.specs.Events.{Event, union_events}
+use Rattle.rl_names.specs.Events.{Event, value_events}
 use Rattle.rl_names.specs.Events as event
 use Rattle.rl_names.specs.Frames.{alphabet_of}
-use Rattle.rl_names.specs.Leaves.{fault_at, leaf_read}
+use Rattle.rl_names.specs.Leaves.{leaf_read}
 use Rattle.rl_grammar.specs.declared.step.Step.{Step}
-
--- ---- keys and entries
 
 abbrev pub fault_in : {A : Type 0} → Result A ReadFault → Option ReadFault
 fault_in (Ok x) = None
@@ -27,7 +24,7 @@ leaf_fault alphabet has (event.Code w) = entry_fault has w
 leaf_fault alphabet has _ = None
 
 abbrev pub statement_leaf_fault : Alphabet → (List ℕ → Bool) → Statement → Option ReadFault
-statement_leaf_fault alphabet has (statement.Definition d) = first_of (leaf_fault alphabet has) (union_events d.value)
+statement_leaf_fault alphabet has (statement.Definition d) = first_of (leaf_fault alphabet has) (value_events d.value)
 statement_leaf_fault alphabet has (statement.Action a) = entry_fault has a.code
 statement_leaf_fault alphabet has _ = None
 
@@ -38,18 +35,3 @@ step_leaf_fault steps s = statement_leaf_fault (alphabet_of s.machine steps) (is
 -- the first fault of keys and entries
 abbrev pub leaves_fault : List Step → Option ReadFault
 leaves_fault steps = first_of (step_leaf_fault steps) steps
-
--- ---- what is not built yet
-
--- scanners
-abbrev pub unbuilt : Event → Option ReadFault
-unbuilt (event.Scan place) = Some (fault_at F20 place)
-unbuilt _ = None
-
-abbrev pub statement_unbuilt : Statement → Option ReadFault
-statement_unbuilt (statement.Definition d) = first_of unbuilt (union_events d.value)
-statement_unbuilt _ = None
-
--- the first construct that is not built yet
-abbrev pub unbuilt_fault : List Step → Option ReadFault
-unbuilt_fault steps = first_of (λ s. statement_unbuilt s.statement) steps

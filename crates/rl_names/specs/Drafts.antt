@@ -45,7 +45,7 @@ pattern_read k p =
 abbrev pub scanner_read : Scope → Scanner → Result Value ReadFault
 scanner_read k s =
     and_then (pattern_read k (out-Scanner s).first) (λ p.
-    and_then (each (pattern_read k) (out-Scanner s).rest) (λ ps. Ok (value.Scanner (p ∷ ps))))
+    and_then (each (pattern_read k) (out-Scanner s).rest) (λ ps. Ok (value.Scanner (p ∷ ps) (out-Scanner s).opening)))
 
 abbrev pub value_by : Scope → Union → Option Scanner → Result Value ReadFault
 value_by k u None = and_then (union_told k u).read (λ e. Ok (value.Expression e))

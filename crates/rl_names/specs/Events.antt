@@ -1,5 +1,5 @@
--- What an expression uses, in text order.
-use Rattle.std.specs.Prelude.{List, [], ◌∷◌, ◌++◌, Option, Some, None}
+-- What a definition's value uses, in text order.
+use Rattle.std.specs.Prelude.{Bool, ◌==◌, ◌&&◌, if◌then◌else◌, List, [], ◌∷◌, ◌++◌, Option, Some, None}
 use Rattle.std.specs.List.{flat_map}
 use Rattle.rl_types.specs.declared.numbers.Place.{Place}
 use Rattle.rl_grammar.specs.declared.syntax.Word.{Word}
@@ -18,9 +18,9 @@ use Rattle.rl_grammar.specs.declared.syntax.Concatenation.{Concatenation}
 use Rattle.rl_grammar.specs.declared.syntax.ConcatenationPart.{ConcatenationPart}
 use Rattle.rl_grammar.specs.declared.syntax.Embedded.{Embedded}
 use Rattle.rl_grammar.specs.declared.syntax.Negated.{Negated}
-use Rattle.rl_grammar.specs.declared.syntax.Pattern.{Pattern}
+use Rattle.rl_grammar.specs.declared.syntax.Pattern.{Pattern, out-Pattern}
 use Rattle.rl_grammar.specs.declared.syntax.Repeated.{Repeated}
-use Rattle.rl_grammar.specs.declared.syntax.Scanner.{Scanner}
+use Rattle.rl_grammar.specs.declared.syntax.Scanner.{Scanner, out-Scanner}
 use Rattle.rl_grammar.specs.declared.syntax.StateKind.{StateKind}
 use Rattle.rl_grammar.specs.declared.syntax.StateKind.TheVariants as kind
 use Rattle.rl_grammar.specs.declared.syntax.Union.{Union}
@@ -28,6 +28,8 @@ use Rattle.rl_grammar.specs.declared.syntax.UnionPart.{UnionPart}
 use Rattle.rl_grammar.specs.declared.syntax.Operand.TheOpen.{Operand-F, Concatenation-F, ConcatenationPart-F, Embedded-F, Negated-F, Pattern-F, Repeated-F, Scanner-F, Union-F, UnionPart-F}
 use Rattle.rl_grammar.specs.declared.syntax.Operand.TheOpen as operand
 use Rattle.rl_grammar.specs.declared.syntax.Operand.TheFolds.{fold-Operand, fold-Concatenation, fold-ConcatenationPart, fold-Embedded, fold-Negated, fold-Pattern, fold-Repeated, fold-Scanner, fold-Union, fold-UnionPart}
+use Rattle.rl_names.specs.Places.{union_place}
+use Rattle.rl_names.specs.Values.{scanner_of}
 use Rattle.rl_names.specs.declared.events.Event.{Event as Shown}
 use Rattle.rl_names.specs.declared.events.Event.TheVariants as shown
 
@@ -44,8 +46,14 @@ pub data Event : Type 0 where
   Priority : Word → Event
   -- an action that may have no control statements: where it is asked for, and which it is
   Quiet : Place → ActionUse → Event
-  -- a scanner begins
-  Scan : Place → Event
+  -- an action that is embedded, or a condition
+  Embeds : ActionUse → Event
+  -- an end-of-file or error embedding
+  Ends : Place → Event
+  -- the same in a pattern
+  Barred : Place → Event
+  -- the name of an expression in a pattern that begins at this place
+  Taken : Place → Word → Event
 
 abbrev pub Found : Type 0
 Found = List Event
@@ -58,7 +66,10 @@ seen (shown.Action w) = Action w.now
 seen (shown.Code w) = Code w.now
 seen (shown.Priority w) = Priority w.now
 seen (shown.Quiet place a) = Quiet place a.now
-seen (shown.Scan place) = Scan place
+seen (shown.Embeds a) = Embeds a.now
+seen (shown.Ends place) = Ends place
+seen (shown.Barred place) = Barred place
+seen (shown.Taken place w) = Taken place w.now
 
 -- ---- embeddings
 
@@ -67,31 +78,30 @@ used (action.Name w) = Action w ∷ []
 used (action.Group opening w closing) = Action w ∷ []
 used (action.Code w) = Code w ∷ []
 
+abbrev pub embedded : ActionUse → Found
+embedded a = Embeds a ∷ used a
+
 abbrev pub ranked : Rank → Found
 ranked (priority.Plain n) = []
 ranked (priority.Named p) = Priority p.name ∷ []
 
 abbrev pub labelled : Label → Found
-labelled (label.Action a) = used a
+labelled (label.Action a) = embedded a
 labelled (label.Priority p) = ranked p
 
--- to-state and from-state actions
+-- to-state and from-state actions may have no control statements; end-of-file and error embeddings stand in no pattern
 abbrev pub marked : StateKind → Place → ActionUse → Found
 marked kind.To place a = Quiet place a ∷ []
 marked kind.From place a = Quiet place a ∷ []
-marked kind.Eof place a = []
-marked kind.Error place a = []
+marked kind.Eof place a = Ends place ∷ []
+marked kind.Error place a = Ends place ∷ []
 
 abbrev pub embedding_events : Embedding → Found
 embedding_events (embedding.Transition sign l) = labelled l
-embedding_events (embedding.State mark a) = marked mark.kind mark.place a ++ used a
-embedding_events (embedding.When place a) = Quiet place a ∷ used a
+embedding_events (embedding.State mark a) = marked mark.kind mark.place a ++ embedded a
+embedding_events (embedding.When place a) = Quiet place a ∷ embedded a
 
-abbrev pub token_events : Option PatternAction → Found
-token_events None = []
-token_events (Some a) = used a.action
-
--- ---- expressions
+-- ---- expressions: a scanner stands in none, so what one would use there counts for nothing
 
 abbrev pub all : List Found → Found
 all parts = flat_map (λ part. part) parts
@@ -128,10 +138,10 @@ abbrev pub union_step : Union-F Found Found Found Found Found Found Found Found 
 union_step u = u.first ++ all u.rest
 
 abbrev pub pattern_step : Pattern-F Found Found Found Found Found Found Found Found Found Found → Found
-pattern_step p = p.value ++ token_events p.action
+pattern_step p = []
 
 abbrev pub scanner_step : Scanner-F Found Found Found Found Found Found Found Found Found Found → Found
-scanner_step s = Scan s.opening ∷ (s.first ++ all s.rest)
+scanner_step s = []
 
 unfoldable pub operand_events : Operand → Found
 operand_events = fold-Operand Found Found Found Found Found Found Found Found Found Found operand_step concatenation_step concatenation_part_step embedded_step negated_step pattern_step repeated_step scanner_step union_step union_part_step
@@ -162,3 +172,52 @@ union_events = fold-Union Found Found Found Found Found Found Found Found Found 
 
 unfoldable pub union_part_events : UnionPart → Found
 union_part_events = fold-UnionPart Found Found Found Found Found Found Found Found Found Found operand_step concatenation_step concatenation_part_step embedded_step negated_step pattern_step repeated_step scanner_step union_step union_part_step
+
+-- ---- scanners
+
+abbrev pub token_events : Option PatternAction → Found
+token_events None = []
+token_events (Some a) = used a.action
+
+-- what an event is in a pattern that begins at this place
+abbrev pub in_pattern : Place → Event → Found
+in_pattern place (Name w) = Name w ∷ Taken place w ∷ []
+in_pattern place (Ends at) = Barred at ∷ []
+in_pattern place e = e ∷ []
+
+-- no action that a pattern embeds may have control statements: this is asked where the pattern begins
+abbrev pub calmed : Place → Event → Found
+calmed place (Embeds a) = Quiet place a ∷ []
+calmed place _ = []
+
+abbrev pub same_place : Place → Place → Bool
+same_place p q = p.file == q.file && p.line == q.line && p.col == q.col
+
+-- a name that is a pattern's first token: that it is known comes before all else that is asked there
+abbrev pub named_at : Place → Event → Found
+named_at place (Name w) = if same_place place w.place then Name w ∷ [] else []
+named_at place _ = []
+
+abbrev pub first_name : Place → Found → Found
+first_name place [] = []
+first_name place (e ∷ es) = named_at place e
+
+-- what a pattern that begins at this place uses, where its expression uses these
+abbrev pub uses_from : Place → Found → Found
+uses_from place es = first_name place es ++ (flat_map (calmed place) es ++ flat_map (in_pattern place) es)
+
+abbrev pub pattern_uses : Pattern → Found
+pattern_uses p = uses_from (union_place (out-Pattern p).value) (union_events (out-Pattern p).value) ++ token_events (out-Pattern p).action
+
+abbrev pub scanner_uses : Scanner → Found
+scanner_uses s = pattern_uses (out-Scanner s).first ++ flat_map pattern_uses (out-Scanner s).rest
+
+-- ---- values of definitions
+
+abbrev pub uses_by : Union → Option Scanner → Found
+uses_by u None = union_events u
+uses_by u (Some s) = scanner_uses s
+
+-- what an expression uses, or what the patterns of a scanner do
+abbrev pub value_events : Union → Found
+value_events u = uses_by u (scanner_of u)

@@ -118,7 +118,7 @@ followed i (layer.Embedded inner puts place) = i
 -- an expression is used by the number of its definition; a scanner's name is no expression's
 abbrev pub value_used : Place → ℕ → Value → Result Expression ReadFault
 value_used place i (value.Expression e) = Ok (made.Name (followed i (out-Expression e)))
-value_used place i (value.Scanner patterns) = unknown place
+value_used place i (value.Scanner patterns opening) = unknown place
 
 abbrev pub definition_used : Place → ℕ → Option Definition → Result Expression ReadFault
 definition_used place i None = unknown place

@@ -18,3 +18,4 @@ pub mod Levels
 pub mod Scopes
 pub mod Bases
 pub mod Drafts
+pub mod Patterns

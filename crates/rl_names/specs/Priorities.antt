@@ -2,7 +2,7 @@
 use Rattle.std.specs.Prelude.{ℕ, if◌then◌else◌, List, [], fold}
 use Rattle.rl_grammar.specs.declared.syntax.Statement.{Statement}
 use Rattle.rl_grammar.specs.declared.syntax.Statement.TheVariants as statement
-use Rattle.rl_names.specs.Events.{Event, union_events}
+use Rattle.rl_names.specs.Events.{Event, value_events}
 use Rattle.rl_names.specs.Events as event
 use Rattle.rl_names.specs.Frames.{is_of, with_name}
 use Rattle.rl_grammar.specs.declared.step.Step.{Step}
@@ -14,7 +14,7 @@ priority_used names (event.Priority w) = with_name names w.text
 priority_used names _ = names
 
 abbrev pub priorities_by : List (List ℕ) → Statement → List (List ℕ)
-priorities_by names (statement.Definition d) = fold priority_used (with_name names d.name.text) (union_events d.value)
+priorities_by names (statement.Definition d) = fold priority_used (with_name names d.name.text) (value_events d.value)
 priorities_by names _ = names
 
 abbrev pub priorities_behind : List ℕ → List (List ℕ) → Step → List (List ℕ)

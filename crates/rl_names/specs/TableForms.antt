@@ -28,7 +28,7 @@ abbrev pub has_in : {S : Type 0} → List ℕ → IndexSet (Text × Text) S → 
 has_in machine table name = is_among machine name (pairs table)
 
 -- the names of a table, in order, and what is said of them
-abbrev pub entries : {S : Type 0} → IndexMap (Text × Text) Bool S → List (Named × Bool)
+abbrev pub entries : {A S : Type 0} → IndexMap (Text × Text) A S → List (Named × A)
 entries table = map (λ e. (named e.0, e.1)) table.entries
 
 -- how many names a machine has

@@ -1,23 +1,15 @@
 -- What is known so far, as it is kept.
-use Rattle.std.specs.Prelude.{◌≡◌, ℕ, ◌+◌, if◌then◌else◌, List, ◌++◌, Option, None, Result, MatchResult}
+use Rattle.std.specs.Prelude.{◌≡◌, ℕ, ◌+◌, if◌then◌else◌, List, Option, None, Result, MatchResult}
 use Rattle.std.specs.Str.{bytes_eq}
 use Rattle.rl_grammar.specs.declared.read_fault.ReadFault.{ReadFault}
 use Rattle.rl_grammar.specs.declared.syntax.Statement.{Statement}
 use Rattle.rl_names.specs.Answers.{Told}
-use Rattle.rl_names.specs.Names.{Known, defined_by, action_by, written_by, names_by}
+use Rattle.rl_names.specs.Names.{Known, behind, names_by}
 use Rattle.rl_names.specs.TableForms.{texts, entries, count_in}
 use Rattle.rl_names.specs.declared.tables.Tables.{Tables}
 
 abbrev pub seen : Tables → Known
 seen t = record { defined = entries t.defined; actions = entries t.actions; written = texts t.written }
-
--- what is known behind one more statement
-abbrev pub behind : Known → List ℕ → Statement → Known
-behind k machine s = record {
-  defined = k.defined ++ defined_by machine s;
-  actions = k.actions ++ action_by machine s;
-  written = k.written ++ written_by machine s;
-}
 
 -- one more statement is known, which has no fault
 pub record IsNoted (due : Option ReadFault) (machine : List ℕ) (s : Statement) (old new : Tables) : Type 0 where

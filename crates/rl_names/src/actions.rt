@@ -3,7 +3,7 @@ ghost use Rattle.std.specs.Prelude.{◌≡◌, [], ◌∷◌, ◌++◌, fold, ma
 ghost use Rattle.rl_grammar.specs.declared.read_fault.ReadFault.TheVariants as reason;
 ghost use Rattle.rl_names.specs.Actions as actions;
 ghost use Rattle.rl_names.specs.Answers.{Explains};
-ghost use Rattle.rl_names.specs.Events.{seen as shown, union_events};
+ghost use Rattle.rl_names.specs.Events.{seen as shown, value_events};
 ghost use Rattle.rl_names.specs.TableForms.{texts, pointed};
 
 use crate::entries::entries_of;
@@ -116,7 +116,10 @@ fn used(
         | Event::Action(_)
         | Event::Priority(_)
         | Event::Quiet(_, _)
-        | Event::Scan(_) => Ok(()),
+        | Event::Embeds(_)
+        | Event::Ends(_)
+        | Event::Barred(_)
+        | Event::Taken(_, _) => Ok(()),
     }
 }
 
@@ -140,7 +143,7 @@ fn value_used(
     list: &mut List<ActionDef>,
     value: &Union,
 ) -> Result<(), ReadFault>
-    ensures { MatchResult result (λ _. list.new ≡ fold (actions.action_used (texts entries.now)) list.old (union_events value.now)) (λ e. e ≡ reason.Memory) }
+    ensures { MatchResult result (λ _. list.new ≡ fold (actions.action_used (texts entries.now)) list.old (value_events value.now)) (λ e. e ≡ reason.Memory) }
 {
     let events = events_of(alloc, value)?;
     all_used(alloc, entries, list, events.as_slice())

@@ -1,6 +1,6 @@
-// The faults of keys and of entries, and what is not built yet: the first of each in text order.
+// The faults of keys and of entries: the first of them in text order.
 ghost use Rattle.std.specs.Prelude.{◌≡◌, ℕ, List, map};
-ghost use Rattle.rl_names.specs.Answers.{Tells, Shows, first_of};
+ghost use Rattle.rl_names.specs.Answers.{Tells, first_of};
 ghost use Rattle.rl_names.specs.Checks as checks;
 ghost use Rattle.rl_names.specs.Events.{seen as shown};
 ghost use Rattle.rl_names.specs.Entries.{is_entry};
@@ -11,10 +11,10 @@ use crate::alphabets::{Alphabets, alphabet_in, alphabets_of};
 use crate::events::{Event, events_of};
 use crate::instances::{Instances, entries, instances_of};
 use crate::leaves::leaf_of;
-use crate::memory::{NameFault, fault_at};
+use crate::memory::NameFault;
 use rl_grammar::syntax::Statement;
 use rl_grammar::{ReadFault, Step};
-use rl_types::{Alphabet, FaultKind};
+use rl_types::Alphabet;
 use std::alloc::Global;
 
 /// The keys and entries that an expression uses.
@@ -37,7 +37,10 @@ fn leaf(
         | Event::Action(_)
         | Event::Priority(_)
         | Event::Quiet(_, _)
-        | Event::Scan(_) => Ok(()),
+        | Event::Embeds(_)
+        | Event::Ends(_)
+        | Event::Barred(_)
+        | Event::Taken(_, _) => Ok(()),
     }
 }
 
@@ -112,59 +115,6 @@ pub fn check_leaves(alloc: Global, steps: &[Step]) -> Result<(), NameFault>
     let instances = instances_of(alloc, steps)?;
     for step in steps {
         step_leaves(alloc, &alphabets, &instances, steps, step)?;
-    }
-    Ok(())
-}
-
-/// What is not built yet: scanners.
-fn built(event: &Event<'_>) -> Result<(), ReadFault>
-    ensures { Shows (checks.unbuilt (shown event.now)) result }
-{
-    match event {
-        Event::Scan(place) => Err(fault_at(FaultKind::F20, *place)),
-        Event::Leaf(_)
-        | Event::Name(_)
-        | Event::Action(_)
-        | Event::Code(_)
-        | Event::Priority(_)
-        | Event::Quiet(_, _) => Ok(()),
-    }
-}
-
-fn all_built(events: &[Event<'_>]) -> Result<(), ReadFault>
-    ensures { Shows (first_of checks.unbuilt (map shown events.now)) result }
-{
-    for event in events {
-        built(event)?;
-    }
-    Ok(())
-}
-
-fn statement_built(alloc: Global, statement: &Statement) -> Result<(), ReadFault>
-    ensures { Tells (checks.statement_unbuilt statement.now) result }
-{
-    match statement {
-        Statement::Definition(one) => {
-            let events = events_of(alloc, &one.value)?;
-            all_built(events.as_slice())
-        }
-        Statement::Action(_)
-        | Statement::Machine(_)
-        | Statement::Include(_)
-        | Statement::Alphtype(_)
-        | Statement::Access(_)
-        | Statement::Variable(_)
-        | Statement::Write(_) => Ok(()),
-    }
-}
-
-/// Whether all that a source says is built; the error is F20 at the first scanner in text order (this profile). Memory may
-/// be wanted at any time.
-pub fn check_built(alloc: Global, steps: &[Step]) -> Result<(), NameFault>
-    ensures { Tells (checks.unbuilt_fault steps.now) result }
-{
-    for step in steps {
-        statement_built(alloc, &step.statement)?;
     }
     Ok(())
 }

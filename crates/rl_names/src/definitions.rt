@@ -77,7 +77,7 @@ fn scanner(alloc: Global, scope: &Scope<'_>, scanner: &Scanner) -> Result<Value,
 {
     let first = pattern(alloc, scope, &scanner.first)?;
     let all = patterns(alloc, scope, first, scanner.rest.as_slice())?;
-    Ok(Value::Scanner(all))
+    Ok(Value::Scanner(all, scanner.opening))
 }
 
 fn value(alloc: Global, scope: &Scope<'_>, value: &Union) -> Result<Value, ReadFault>

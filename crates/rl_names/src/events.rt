@@ -1,10 +1,12 @@
-// What an expression uses, in text order.
+// What a definition's value uses, in text order.
 ghost use Rattle.std.specs.Prelude.{◌≡◌, ◌∷◌, [], ◌++◌, map, OnOk, MatchResult};
 ghost use Rattle.rl_grammar.specs.declared.read_fault.ReadFault.TheVariants as reason;
 ghost use Rattle.std.specs.List.{flat_map};
 ghost use Rattle.rl_names.specs.Events as events;
 ghost use Rattle.rl_names.specs.Uses as inner;
 
+use crate::places::union_place;
+use crate::values::scanner_of;
 use rl_grammar::ReadFault;
 use rl_grammar::syntax::{
     ActionUse, Concatenation, ConcatenationPart, Embedded, Embedding, Label, Operand, Pattern,
@@ -28,8 +30,14 @@ pub enum Event<'a> {
     Priority(&'a Word),
     /// An action that may have no control statements: where it is asked for, and which it is.
     Quiet(Place, &'a ActionUse),
-    /// A scanner begins.
-    Scan(Place),
+    /// An action that is embedded, or a condition.
+    Embeds(&'a ActionUse),
+    /// An end-of-file or error embedding.
+    Ends(Place),
+    /// The same in a pattern.
+    Barred(Place),
+    /// The name of an expression in a pattern that begins at this place.
+    Taken(Place, &'a Word),
 }
 
 type Found<'a> = Vec<Event<'a>>;
@@ -49,17 +57,24 @@ fn used<'a>(found: &mut Found<'a>, action: &'a ActionUse) -> Result<(), Memory>
     }
 }
 
+fn embeds<'a>(found: &mut Found<'a>, action: &'a ActionUse) -> Result<(), Memory>
+    ensures { OnOk result (map events.seen found.new.items ≡ map events.seen found.old.items ++ events.embedded action.now) }
+{
+    push(found, Event::Embeds(action))?;
+    used(found, action)
+}
+
 fn labelled<'a>(found: &mut Found<'a>, label: &'a Label) -> Result<(), Memory>
     ensures { OnOk result (map events.seen found.new.items ≡ map events.seen found.old.items ++ events.labelled label.now) }
 {
     match label {
-        Label::Action(action) => used(found, action),
+        Label::Action(action) => embeds(found, action),
         Label::Priority(Priority::Plain(_)) => Ok(()),
         Label::Priority(Priority::Named(named)) => push(found, Event::Priority(&named.name)),
     }
 }
 
-/// To-state and from-state actions may have no control statements.
+/// To-state and from-state actions may have no control statements; end-of-file and error embeddings stand in no pattern.
 fn marked<'a>(
     found: &mut Found<'a>,
     kind: StateKind,
@@ -70,7 +85,7 @@ fn marked<'a>(
 {
     match kind {
         StateKind::To | StateKind::From => push(found, Event::Quiet(place, action)),
-        StateKind::Eof | StateKind::Error => Ok(()),
+        StateKind::Eof | StateKind::Error => push(found, Event::Ends(place)),
     }
 }
 
@@ -81,11 +96,11 @@ fn embedding<'a>(found: &mut Found<'a>, embedding: &'a Embedding) -> Result<(), 
         Embedding::Transition(_, label) => labelled(found, label),
         Embedding::State(mark, action) => {
             marked(found, mark.kind, mark.place, action)?;
-            used(found, action)
+            embeds(found, action)
         }
         Embedding::When(place, action) => {
             push(found, Event::Quiet(*place, action))?;
-            used(found, action)
+            embeds(found, action)
         }
     }
 }
@@ -97,15 +112,6 @@ fn embeddings<'a>(found: &mut Found<'a>, all: &'a [Embedding]) -> Result<(), Mem
         embedding(found, one)?;
     }
     Ok(())
-}
-
-fn token<'a>(found: &mut Found<'a>, action: &'a Option<PatternAction>) -> Result<(), Memory>
-    ensures { OnOk result (map events.seen found.new.items ≡ map events.seen found.old.items ++ events.token_events action.now) }
-{
-    match action {
-        Some(one) => used(found, &one.action),
-        None => Ok(()),
-    }
 }
 
 #[cycle(events)]
@@ -120,7 +126,7 @@ fn operand<'a>(found: &mut Found<'a>, operand: &'a Operand) -> Result<(), Memory
         Operand::RegularExpression(_) => push(found, Event::Leaf(operand)),
         Operand::Name(word) => push(found, Event::Name(word)),
         Operand::Group(_, inner, _) => union(found, inner.get()),
-        Operand::Scanner(inner) => scanner(found, inner.get()),
+        Operand::Scanner(_) => Ok(()),
     }
 }
 
@@ -171,46 +177,163 @@ fn union<'a>(found: &mut Found<'a>, union: &'a Union) -> Result<(), Memory>
     union_parts(found, union.rest.as_slice())
 }
 
-#[cycle(events)]
-fn pattern<'a>(found: &mut Found<'a>, pattern: &'a Pattern) -> Result<(), Memory>
-    ensures { OnOk result (map events.seen found.new.items ≡ map events.seen found.old.items ++ events.pattern_events pattern.now) }
+// ---- scanners
+
+fn token<'a>(found: &mut Found<'a>, action: &'a Option<PatternAction>) -> Result<(), Memory>
+    ensures { OnOk result (map events.seen found.new.items ≡ map events.seen found.old.items ++ events.token_events action.now) }
 {
-    union(found, &pattern.value)?;
-    token(found, &pattern.action)
+    match action {
+        Some(one) => used(found, &one.action),
+        None => Ok(()),
+    }
 }
 
-#[cycle(events)]
-fn patterns<'a>(found: &mut Found<'a>, all: &'a [Pattern]) -> Result<(), Memory>
-    ensures { OnOk result (map events.seen found.new.items ≡ map events.seen found.old.items ++ flat_map events.pattern_events all.now) }
+fn same_place(p: Place, q: Place) -> bool
+    ensures { result ≡ events.same_place p q }
 {
-    for one in all {
-        pattern(found, one)?;
+    p.file == q.file && p.line == q.line && p.col == q.col
+}
+
+/// A name that is a pattern's first token.
+fn named_at<'a>(found: &mut Found<'a>, place: Place, event: &Event<'a>) -> Result<(), Memory>
+    ensures { OnOk result (map events.seen found.new.items ≡ map events.seen found.old.items ++ events.named_at place (events.seen event.now)) }
+{
+    match event {
+        Event::Name(word) => {
+            if same_place(place, word.place) {
+                push(found, Event::Name(word))
+            } else {
+                Ok(())
+            }
+        }
+        Event::Leaf(_)
+        | Event::Action(_)
+        | Event::Code(_)
+        | Event::Priority(_)
+        | Event::Quiet(_, _)
+        | Event::Embeds(_)
+        | Event::Ends(_)
+        | Event::Barred(_)
+        | Event::Taken(_, _) => Ok(()),
+    }
+}
+
+fn first_name<'a>(found: &mut Found<'a>, place: Place, own: &[Event<'a>]) -> Result<(), Memory>
+    ensures { OnOk result (map events.seen found.new.items ≡ map events.seen found.old.items ++ events.first_name place (map events.seen own.now)) }
+{
+    match own.split_first() {
+        Some((first, _)) => named_at(found, place, first),
+        None => Ok(()),
+    }
+}
+
+/// No action that a pattern embeds may have control statements.
+fn calmed<'a>(found: &mut Found<'a>, place: Place, event: &Event<'a>) -> Result<(), Memory>
+    ensures { OnOk result (map events.seen found.new.items ≡ map events.seen found.old.items ++ events.calmed place (events.seen event.now)) }
+{
+    match event {
+        Event::Embeds(action) => push(found, Event::Quiet(place, action)),
+        Event::Leaf(_)
+        | Event::Name(_)
+        | Event::Action(_)
+        | Event::Code(_)
+        | Event::Priority(_)
+        | Event::Quiet(_, _)
+        | Event::Ends(_)
+        | Event::Barred(_)
+        | Event::Taken(_, _) => Ok(()),
+    }
+}
+
+fn all_calmed<'a>(found: &mut Found<'a>, place: Place, own: &[Event<'a>]) -> Result<(), Memory>
+    ensures { OnOk result (map events.seen found.new.items ≡ map events.seen found.old.items ++ flat_map (events.calmed place) (map events.seen own.now)) }
+{
+    for one in own {
+        calmed(found, place, one)?;
     }
     Ok(())
 }
 
-#[cycle(events)]
-fn inside<'a>(found: &mut Found<'a>, scanner: &'a Scanner) -> Result<(), Memory>
-    ensures { OnOk result (map events.seen found.new.items ≡ map events.seen found.old.items ++ inner.scanner_uses scanner.now) }
+/// What an event is in a pattern.
+fn in_pattern<'a>(found: &mut Found<'a>, place: Place, event: &Event<'a>) -> Result<(), Memory>
+    ensures { OnOk result (map events.seen found.new.items ≡ map events.seen found.old.items ++ events.in_pattern place (events.seen event.now)) }
 {
-    pattern(found, &scanner.first)?;
-    patterns(found, scanner.rest.as_slice())
+    match event {
+        Event::Name(word) => {
+            push(found, *event)?;
+            push(found, Event::Taken(place, word))
+        }
+        Event::Ends(at) => push(found, Event::Barred(*at)),
+        Event::Leaf(_)
+        | Event::Action(_)
+        | Event::Code(_)
+        | Event::Priority(_)
+        | Event::Quiet(_, _)
+        | Event::Embeds(_)
+        | Event::Barred(_)
+        | Event::Taken(_, _) => push(found, *event),
+    }
 }
 
-#[cycle(events)]
-fn scanner<'a>(found: &mut Found<'a>, scanner: &'a Scanner) -> Result<(), Memory>
-    ensures { OnOk result (map events.seen found.new.items ≡ map events.seen found.old.items ++ events.scanner_events scanner.now) }
+fn all_in_pattern<'a>(found: &mut Found<'a>, place: Place, own: &[Event<'a>]) -> Result<(), Memory>
+    ensures { OnOk result (map events.seen found.new.items ≡ map events.seen found.old.items ++ flat_map (events.in_pattern place) (map events.seen own.now)) }
 {
-    push(found, Event::Scan(scanner.opening))?;
-    inside(found, scanner)
+    for one in own {
+        in_pattern(found, place, one)?;
+    }
+    Ok(())
 }
 
-/// What an expression uses.
+fn uses_from<'a>(found: &mut Found<'a>, place: Place, own: &[Event<'a>]) -> Result<(), Memory>
+    ensures { OnOk result (map events.seen found.new.items ≡ map events.seen found.old.items ++ events.uses_from place (map events.seen own.now)) }
+{
+    first_name(found, place, own)?;
+    all_calmed(found, place, own)?;
+    all_in_pattern(found, place, own)
+}
+
+fn pattern<'a>(alloc: Global, found: &mut Found<'a>, pattern: &'a Pattern) -> Result<(), Memory>
+    ensures { OnOk result (map events.seen found.new.items ≡ map events.seen found.old.items ++ events.pattern_uses pattern.now) }
+{
+    let mut own = Vec::new(alloc);
+    union(&mut own, &pattern.value)?;
+    uses_from(found, union_place(&pattern.value), own.as_slice())?;
+    token(found, &pattern.action)
+}
+
+fn patterns<'a>(alloc: Global, found: &mut Found<'a>, all: &'a [Pattern]) -> Result<(), Memory>
+    ensures { OnOk result (map events.seen found.new.items ≡ map events.seen found.old.items ++ flat_map events.pattern_uses all.now) }
+{
+    for one in all {
+        pattern(alloc, found, one)?;
+    }
+    Ok(())
+}
+
+fn scanner<'a>(alloc: Global, found: &mut Found<'a>, scanner: &'a Scanner) -> Result<(), Memory>
+    ensures { OnOk result (map events.seen found.new.items ≡ map events.seen found.old.items ++ events.scanner_uses scanner.now) }
+{
+    pattern(alloc, found, &scanner.first)?;
+    patterns(alloc, found, scanner.rest.as_slice())
+}
+
+// ---- values of definitions
+
+fn used_by<'a>(alloc: Global, found: &mut Found<'a>, value: &'a Union) -> Result<(), Memory>
+    ensures { OnOk result (map events.seen found.new.items ≡ map events.seen found.old.items ++ events.value_events value.now) }
+{
+    match scanner_of(value) {
+        Some(one) => scanner(alloc, found, one),
+        None => union(found, value),
+    }
+}
+
+/// What an expression uses, or what the patterns of a scanner do.
 pub fn events_of(alloc: Global, value: &Union) -> Result<Vec<Event<'_>>, ReadFault>
-    ensures { MatchResult result (λ found. map events.seen found.items ≡ events.union_events value.now) (λ e. e ≡ reason.Memory) }
+    ensures { MatchResult result (λ found. map events.seen found.items ≡ events.value_events value.now) (λ e. e ≡ reason.Memory) }
 {
     let mut found = Vec::new(alloc);
-    match union(&mut found, value) {
+    match used_by(alloc, &mut found, value) {
         Ok(()) => Ok(found),
         Err(Memory) => Err(ReadFault::Memory),
     }

@@ -5,6 +5,7 @@ mod actions;
 mod alone;
 mod alphabets;
 mod base;
+mod brought;
 mod checks;
 mod codes;
 mod definitions;
@@ -30,7 +31,7 @@ mod texts;
 mod used;
 mod values;
 
-pub use checks::{check_built, check_leaves};
+pub use checks::check_leaves;
 pub use machines::{drafts, machine_names};
 pub use memory::NameFault;
 pub use names::check_names;

@@ -168,7 +168,7 @@ pub fn machine_names(alloc: Global, steps: &[Step]) -> Result<List<Name>, NameFa
 /// The drafts of the machines of `machine_names`, in their order. A machine is read by the statements that belong to it,
 /// those of included files in their place; names become numbers, keys become sets of values.
 ///
-/// This is no test of the source: `check_names`, `check_leaves` and `check_built` are, and come before it. An error is the
+/// This is no test of the source: `check_names` and `check_leaves` are, and come before it. An error is the
 /// first of the first machine that has one: F6 at the second of two actions or definitions of one name, F5 at a name that
 /// is not defined earlier, F8 and F9 as in `check_leaves`, and F7, F10 and F11 at what the parser refuses already. Memory
 /// may be wanted at any time.

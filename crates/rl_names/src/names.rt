@@ -1,21 +1,20 @@
 // The first fault of names and of the codes of actions, in text order.
-ghost use Rattle.std.specs.Prelude.{◌≡◌, ◌+◌, ℕ, List, [], None, Some, map, MatchResult, OnOk, unwrap_or, false};
-ghost use Rattle.rl_grammar.specs.declared.read_fault.ReadFault.TheVariants as reason;
+ghost use Rattle.std.specs.Prelude.{◌≡◌, ◌+◌, ℕ, List, None, Some, map, MatchResult, OnOk};
 ghost use Rattle.rl_grammar.specs.declared.syntax.Statement.TheVariants as statement;
 ghost use Rattle.rl_names.specs.Answers.{Told, Tells, Shows};
-ghost use Rattle.rl_names.specs.Events.{seen as shown, union_events};
+ghost use Rattle.rl_names.specs.Events.{seen as shown};
 ghost use Rattle.rl_names.specs.Names as names;
 ghost use Rattle.rl_names.specs.TableForms.{count_in};
 ghost use Rattle.rl_names.specs.Tables.{seen, Notes};
 
-use crate::codes::{code, has_statements};
+use crate::brought::{brings_statements, brought, brought_ending, is_usable, steers};
+use crate::codes::code;
 use crate::events::{Event, events_of};
 use crate::memory::{NameFault, fault_at};
 use crate::tables::{Tables, add_text, count_of, define, said_of, set_count};
 use crate::texts::has;
-use crate::values::scanner_of;
 use indexmap::{IndexMap, IndexSet};
-use rl_grammar::syntax::{Action, ActionUse, Definition, Statement, Union, Word, Write, WriteKind};
+use rl_grammar::syntax::{Action, ActionUse, Definition, Statement, Word, Write, WriteKind};
 use rl_grammar::{ReadFault, Step};
 use rl_leaves::is_built_in;
 use rl_types::{FaultKind, Limit, LimitKind, Place};
@@ -38,21 +37,12 @@ fn counted(count: u32, place: Place) -> Result<u32, ReadFault>
     }
 }
 
-fn is_usable(tables: &Tables<'_>, machine: &[u8], name: &[u8]) -> bool
-    ensures { result ≡ unwrap_or (names.said_of (machine.now, name.now) (seen tables.now).defined) false }
-{
-    match said_of(&tables.defined, machine, name) {
-        Some(usable) => usable,
-        None => false,
-    }
-}
-
 /// An expression that is used is defined earlier.
 fn expression(tables: &Tables<'_>, machine: &[u8], word: &Word) -> Result<(), ReadFault>
     ensures { Shows (names.expression_fault (seen tables.now) machine.now word.now) result }
 {
     let name = word.text.as_slice();
-    if is_built_in(name) || is_usable(tables, machine, name) {
+    if is_built_in(name) || is_usable(said_of(&tables.defined, machine, name)) {
         Ok(())
     } else {
         Err(fault_at(FaultKind::F5, word.place))
@@ -69,33 +59,6 @@ fn embedded(tables: &Tables<'_>, machine: &[u8], word: &Word) -> Result<(), Read
     }
 }
 
-/// Whether an action that is defined earlier has control statements.
-fn named_steers(tables: &Tables<'_>, machine: &[u8], name: &[u8]) -> bool
-    ensures { result ≡ unwrap_or (names.said_of (machine.now, name.now) (seen tables.now).actions) false }
-{
-    match said_of(&tables.actions, machine, name) {
-        Some(steers) => steers,
-        None => false,
-    }
-}
-
-/// Whether an action that is used has control statements.
-fn steers(
-    alloc: Global,
-    tables: &Tables<'_>,
-    machine: &[u8],
-    action: &ActionUse,
-) -> Result<bool, ReadFault>
-    ensures { MatchResult result (λ b. b ≡ names.steers (seen tables.now) machine.now action.now) (λ e. e ≡ reason.Memory) }
-{
-    match action {
-        ActionUse::Name(word) | ActionUse::Group(_, word, _) => {
-            Ok(named_steers(tables, machine, word.text.as_slice()))
-        }
-        ActionUse::Code(word) => has_statements(alloc, word.text.as_slice()),
-    }
-}
-
 /// An action that may have no control statements.
 fn quiet(
     alloc: Global,
@@ -107,6 +70,21 @@ fn quiet(
     ensures { Tells (names.quiet_fault (seen tables.now) machine.now place action.now) result }
 {
     if steers(alloc, tables, machine, action)? {
+        Err(fault_at(FaultKind::F13, place))
+    } else {
+        Ok(())
+    }
+}
+
+/// A name in a pattern that begins at this place.
+fn taken(tables: &Tables<'_>, machine: &[u8], place: Place, word: &Word) -> Result<(), ReadFault>
+    ensures { Shows (names.taken_fault place (names.said_of (machine.now, word.now.text) (seen tables.now).defined)) result }
+{
+    let brought = said_of(&tables.defined, machine, word.text.as_slice());
+    if let Some(ending) = brought_ending(brought) {
+        return Err(fault_at(FaultKind::F14, ending.place));
+    }
+    if brings_statements(brought) {
         Err(fault_at(FaultKind::F13, place))
     } else {
         Ok(())
@@ -147,7 +125,12 @@ fn used(
             quiet(alloc, tables, machine, *place, action)?;
             Ok(count)
         }
-        Event::Leaf(_) | Event::Priority(_) | Event::Scan(_) => Ok(count),
+        Event::Barred(place) => Err(fault_at(FaultKind::F14, *place)),
+        Event::Taken(place, word) => {
+            taken(tables, machine, *place, word)?;
+            Ok(count)
+        }
+        Event::Leaf(_) | Event::Priority(_) | Event::Embeds(_) | Event::Ends(_) => Ok(count),
     }
 }
 
@@ -167,21 +150,6 @@ fn all_used(
         behind = used(alloc, tables, machine, behind, event)?;
     }
     Ok(behind)
-}
-
-/// How many names there are behind an expression.
-fn value_used(
-    alloc: Global,
-    tables: &Tables<'_>,
-    machine: &[u8],
-    count: u32,
-    value: &Union,
-) -> Result<u32, ReadFault>
-    ensures { MatchResult result (λ n. (names.uses_fault (seen tables.now) machine.now count (union_events value.now) ≡ None) × (n ≡ count + names.codes_in (union_events value.now)))
-        (Told (names.uses_fault (seen tables.now) machine.now count (union_events value.now))) }
-{
-    let events = events_of(alloc, value)?;
-    all_used(alloc, tables, machine, count, events.as_slice())
 }
 
 /// A name of an expression is new, and not built in.
@@ -209,13 +177,14 @@ fn definition<'a>(
 {
     fresh(tables, machine, &definition.name)?;
     let count = counted(count_of(&tables.counts, machine), definition.name.place)?;
-    let count = value_used(alloc, tables, machine, count, &definition.value)?;
-    let usable = scanner_of(&definition.value).is_none();
+    let events = events_of(alloc, &definition.value)?;
+    let count = all_used(alloc, tables, machine, count, events.as_slice())?;
+    let brought = brought(alloc, tables, machine, definition, events.as_slice())?;
     define(
         &mut tables.defined,
         machine,
         definition.name.text.as_slice(),
-        usable,
+        brought,
     )?;
     set_count(&mut tables.counts, machine, count)
 }
@@ -292,7 +261,7 @@ fn check<'a>(alloc: Global, tables: &mut Tables<'a>, step: &'a Step) -> Result<(
 }
 
 fn no_tables<'a>(alloc: Global) -> Tables<'a>
-    ensures known { seen result ≡ names.known [] }
+    ensures known { seen result ≡ names.nothing }
     ensures counts { (x : List ℕ) → count_in x result.counts ≡ 0 }
 {
     let defined = IndexMap::new(alloc);
@@ -315,9 +284,16 @@ fn no_tables<'a>(alloc: Global) -> Tables<'a>
 /// counted at its `{` (this profile). Of one definition F6 at its name comes first, then L9 at its name, then what its
 /// expression uses, or what the code of its action says.
 ///
-/// F13 stands at a word of code that is left out or has not its form (3.4, 6.1 to 6.3), and at the sign of a to-state or
-/// from-state embedding (3.6) or the `when` (6.5) whose action has control statements; L10 at the fifth statement of a code
-/// at the outer level that no transfer or `fbreak` stands before (this profile). Memory may be wanted at any time.
+/// F13 stands at a word of code that is left out or has not its form (3.4, 6.1 to 6.3); at the sign of a to-state or
+/// from-state embedding (3.6) or the `when` (6.5) whose action has control statements; and at the first token of a pattern
+/// of a scanner (6.3) that embeds an action with control statements, or asks one as a condition, itself or by the names that
+/// it uses (this profile; the pattern's own action behind `=>` may have them). F14 stands at an end-of-file or error
+/// embedding (3.6) that a pattern has, itself or by the names that it uses (this profile). L10 stands at the fifth statement
+/// of a code at the outer level that no transfer or `fbreak` stands before (this profile). Memory may be wanted at any time.
+///
+/// A fault F13 or F14 that a pattern meets by a name comes where this name stands in the pattern. Of several that one name
+/// brings the first in text order comes, which is an F14: what a name stands for is before the pattern. At a pattern's first
+/// token its own F13 comes before what that token brings, and behind F5 of that token.
 pub fn check_names(alloc: Global, steps: &[Step]) -> Result<(), NameFault>
     ensures { Tells (names.names_fault steps.now) result }
 {

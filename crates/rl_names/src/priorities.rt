@@ -1,7 +1,7 @@
 // The names of the priorities of one machine.
 ghost use Rattle.std.specs.Prelude.{◌≡◌, fold, map, MatchResult};
 ghost use Rattle.rl_grammar.specs.declared.read_fault.ReadFault.TheVariants as reason;
-ghost use Rattle.rl_names.specs.Events.{seen as shown, union_events};
+ghost use Rattle.rl_names.specs.Events.{seen as shown, value_events};
 ghost use Rattle.rl_names.specs.Frames.{with_name};
 ghost use Rattle.rl_names.specs.Priorities as priorities;
 ghost use Rattle.rl_names.specs.TableForms.{texts, pointed};
@@ -31,7 +31,10 @@ fn used<'a>(names: &mut Texts<'a>, event: Event<'a>) -> Result<(), ReadFault>
         | Event::Action(_)
         | Event::Code(_)
         | Event::Quiet(_, _)
-        | Event::Scan(_) => Ok(()),
+        | Event::Embeds(_)
+        | Event::Ends(_)
+        | Event::Barred(_)
+        | Event::Taken(_, _) => Ok(()),
     }
 }
 
@@ -49,7 +52,7 @@ fn by_definition<'a>(
     names: &mut Texts<'a>,
     definition: &'a Definition,
 ) -> Result<(), ReadFault>
-    ensures { MatchResult result (λ _. texts names.new ≡ fold priorities.priority_used (with_name (texts names.old) definition.now.name.text) (union_events definition.now.value)) (λ e. e ≡ reason.Memory) }
+    ensures { MatchResult result (λ _. texts names.new ≡ fold priorities.priority_used (with_name (texts names.old) definition.now.name.text) (value_events definition.now.value)) (λ e. e ≡ reason.Memory) }
 {
     put_text(names, definition.name.text.as_slice())?;
     let events = events_of(alloc, &definition.value)?;

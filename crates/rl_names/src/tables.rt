@@ -1,5 +1,5 @@
 // What is defined so far, by names.
-ghost use Rattle.std.specs.Prelude.{◌≡◌, ℕ, List, [], ◌∷◌, ◌++◌, None, if◌then◌else◌, false, MatchResult};
+ghost use Rattle.std.specs.Prelude.{◌≡◌, ℕ, List, [], ◌∷◌, ◌++◌, None, if◌then◌else◌, false, length, MatchResult};
 ghost use Rattle.std.specs.List.{list_any};
 ghost use Rattle.std.specs.Str.{bytes_eq};
 ghost use Rattle.rl_grammar.specs.declared.read_fault.ReadFault.TheVariants as reason;
@@ -8,20 +8,40 @@ ghost use Rattle.rl_names.specs.TableForms.{texts, entries, count_in};
 
 use indexmap::{IndexMap, IndexSet};
 use rl_grammar::ReadFault;
+use rl_types::Place;
 
 /// A machine's name, and a name that it has.
 pub type Named<'a> = (&'a [u8], &'a [u8]);
 
-/// Names with what is said of them: of expressions, whether other expressions may use them; of actions, whether they have
-/// control statements.
-pub type Defined<'a> = IndexMap<Named<'a>, bool>;
+/// An end-of-file or error embedding.
+#[derive(Clone, Copy)]
+pub struct Ending {
+    /// The number of the definition in which it stands, among those of all machines.
+    pub number: usize,
+    pub place: Place,
+}
+
+/// What the name of an expression brings to where it is used.
+#[derive(Clone, Copy)]
+pub struct Brought {
+    /// Whether expressions may use it: a scanner has its name for the entry alone.
+    pub usable: bool,
+    /// Whether an action with control statements is embedded, here or in what the expression's names stand for.
+    pub steers: bool,
+    /// The end-of-file or error embedding that stands first, here or in what the expression's names stand for.
+    pub ending: Option<Ending>,
+}
+
+/// Names with what is said of them.
+pub type Sayings<'a, A> = IndexMap<Named<'a>, A>;
 
 /// What is defined so far, of all machines.
 #[derive(Drop)]
 pub struct Tables<'a> {
-    pub defined: Defined<'a>,
-    /// The names of actions.
-    pub actions: Defined<'a>,
+    /// The names of expressions, and what they bring to where they are used.
+    pub defined: Sayings<'a, Brought>,
+    /// The names of actions, and whether they have control statements.
+    pub actions: Sayings<'a, bool>,
     /// The machines whose data are written.
     pub written: IndexSet<&'a [u8]>,
     /// How many names a machine has.
@@ -29,21 +49,21 @@ pub struct Tables<'a> {
 }
 
 /// What is said of a name.
-pub fn said_of(table: &Defined<'_>, machine: &[u8], name: &[u8]) -> Option<bool>
+pub fn said_of<A: Copy>(table: &Sayings<'_, A>, machine: &[u8], name: &[u8]) -> Option<A>
     ensures { result ≡ said_of (machine.now, name.now) (entries table.now) }
 {
     match table.get(&(machine, name)) {
-        Some(usable) => Some(*usable),
+        Some(said) => Some(*said),
         None => None,
     }
 }
 
 /// Notes a name with what is said of it.
-pub fn define<'a>(
-    table: &mut Defined<'a>,
+pub fn define<'a, A: Copy>(
+    table: &mut Sayings<'a, A>,
     machine: &'a [u8],
     name: &'a [u8],
-    said: bool,
+    said: A,
 ) -> Result<(), ReadFault>
     requires { said_of (machine.now, name.now) (entries table.old) ≡ None }
     ensures { MatchResult result (λ _. entries table.new ≡ entries table.old ++ (((machine.now, name.now), said) ∷ [])) (λ e. e ≡ reason.Memory) }
@@ -52,6 +72,13 @@ pub fn define<'a>(
         Ok(_) => Ok(()),
         Err(_) => Err(ReadFault::Memory),
     }
+}
+
+/// How many names there are.
+pub fn length_of(table: &Sayings<'_, Brought>) -> usize
+    ensures { result ≡ length (entries table.now) }
+{
+    table.len()
 }
 
 /// Notes a text.

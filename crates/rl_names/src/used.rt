@@ -34,7 +34,7 @@ fn value_used(place: Place, index: u32, value: &Value) -> Result<Expression, Rea
 {
     match value {
         Value::Expression(expression) => Ok(Expression::Name(followed(index, expression))),
-        Value::Scanner(_) => Err(fault_at(FaultKind::F5, place)),
+        Value::Scanner(_, _) => Err(fault_at(FaultKind::F5, place)),
     }
 }
 

@@ -1,4 +1,4 @@
--- The Specs of a source that is accepted have their form, where the places of its entries stand in its files.
+-- The Specs of a source that is accepted are well-formed, where the places of its entries stand in its files.
 use Rattle.std.proofs.Common.{◌≡◌, ℕ, ◌≤◌, ◌++◌, List, [], ◌∷◌, map, length, true, Option, None, Some, Result, Ok, refl, sym, ap, ◌∙◌, subst, arith}
 use Rattle.std.specs.Prelude.{All, IsTrue}
 use Rattle.std.specs.List.{flat_map}
@@ -12,12 +12,13 @@ use Rattle.rl_automata.specs.Nodes.{Node}
 use Rattle.rl_automata.specs.Refused.{AreDifferent, sets_in, conditions_in}
 use Rattle.rl_arrays.specs.Names.{is_name, is_action_name}
 use Rattle.rl_model.specs.declared.spec.Entry as rust
+use Rattle.rl_model.specs.declared.spec.Root as rust_root
 use Rattle.rl_model.specs.declared.spec.ActionDef.{ActionDef}
 use Rattle.rl_model.specs.declared.spec.Spec.{Spec}
-use Rattle.rl_model.specs.Specification.{Root, Plain, Scanner, action_of, root_of}
+use Rattle.rl_model.specs.Specification.{action_of, root_of}
 use Rattle.rl_code.specs.Reading.{IsReadAs}
-use Rattle.rl_model.specs.Counts.{root_size, root_depth, trees_of, actions_in, turn_actions_in, stamps_in}
-use Rattle.rl_model.specs.WellFormed.{IsNumber, IsInAlphabet, IsCodeRead, HasNoStatement, outer_statements}
+use Rattle.rl_model.specs.Counts.{root_size, root_depth, trees_of, pattern_trees, token_actions, actions_in, turn_actions_in, stamps_in}
+use Rattle.rl_model.specs.WellFormed.{IsWellFormed, IsNumber, IsInAlphabet, HasPatterns, IsCodeRead, pattern_places, HasNoStatement, outer_statements}
 use Rattle.rl_includes.specs.declared.unrolled.Unrolled.{Unrolled}
 use Rattle.rl_grammar.specs.declared.step.Step.{Step}
 use Rattle.rl_draft.specs.declared.draft.Draft.{Draft}
@@ -28,12 +29,11 @@ use Rattle.rl_names.specs.Frames.{machines_of}
 use Rattle.rl_names.specs.Names.{names_fault}
 use Rattle.rl_rewrite.specs.Entries.{Made, made_of, meanings, entries, all_conditions, first_limit, IsMade}
 use Rattle.rl_form.specs.declared.scope.Scope.{Scope}
-use Rattle.rl_form.specs.Form.{IsPlain, HasForm}
 use Rattle.rl_form.specs.Parts.{IsSet, IsRoot, IsEntry, IsAction, IsWrite, IsCondition, HasFile, IsQuiet, IsQuietRoot, AreQuiet, HasParts, scope_of}
-use Rattle.rl_form.proofs.FormLaws.{form_of_answer}
-use Rattle.rl_form.proofs.Lists.{Each, each_more, each_mapped, each_of_flat, all, each}
-use Rattle.rl_form.proofs.TreeLaws.{sound}
-use Rattle.rl_form.proofs.QuietLaws.{number_quiet, quiet_turns}
+use Rattle.rl_form.proofs.FormLaws.{form_of_answer, root_says, turns_root}
+use Rattle.rl_form.proofs.Lists.{Each, each_front, each_behind, each_more, each_mapped, each_of_flat, all, each}
+use Rattle.rl_form.proofs.TreeLaws.{IsKeySet, IsFewRanges}
+use Rattle.rl_form.proofs.QuietLaws.{number_quiet}
 use Rattle.rl_formed.specs.Laws as laws
 use Rattle.rl_formed.proofs.DraftLaws as drafts
 use Rattle.rl_formed.proofs.ResultLaws.{ok_then, same_ok}
@@ -60,7 +60,9 @@ record IsSound (count : ℕ) (draft : Draft) : Type 0 where
   quiet_turns : laws.HasQuietTurns draft
   own_actions : laws.HasOwnActions draft
   own_entries : laws.HasOwnEntries draft
-  plain : laws.HasPlainEntries draft
+  patterns : laws.HasPatternsIn draft
+  tokens : laws.HasOwnTokens draft
+  quiet_patterns : laws.HasQuietPatterns draft
   embedded : laws.EmbedsOwnActions draft
   conditions : laws.HasOwnConditions draft
   few_actions : laws.HasFewActions draft
@@ -75,23 +77,23 @@ record IsSound (count : ℕ) (draft : Draft) : Type 0 where
 
 -- ---- an expression
 
-root_sound : (scope : Scope) (x : Root) (n : ℕ) → IsPlain x → root_depth x ≤ 2000 → n ≡ root_size x
-    → Each (IsNumber 100000) (flat_map stamps_in (trees_of x)) → Each (λ (t : Node). All (IsNumber scope.actions) (actions_in t)) (trees_of x)
-    → Each (IsNumber scope.conditions) (flat_map conditions_in (trees_of x)) → Each (IsSet scope) (flat_map sets_in (trees_of x)) → IsRoot scope n x
-root_sound scope (Plain t) n plain deep size stamps actions conditions sets =
-    let kept = (each_of_flat (IsSet scope) sets_in (t ∷ []) sets).0 in
-    record {
+root_sound : (scope : Scope) (x : rust_root.Root) (n : ℕ) → root_size (root_of x) ≤ 100000 → root_depth (root_of x) ≤ 2000 → n ≡ root_size (root_of x) → HasPatterns (root_of x)
+    → Each (IsNumber 100000) (flat_map stamps_in (trees_of (root_of x))) → Each (λ (t : Node). All (IsNumber scope.actions) (actions_in t)) (trees_of (root_of x)) → Each (IsNumber scope.actions) (token_actions (root_of x))
+    → Each (IsNumber scope.conditions) (flat_map conditions_in (trees_of (root_of x))) → Each (IsSet scope) (flat_map sets_in (trees_of (root_of x))) → Each (HasFile scope.files) (pattern_places x) → IsRoot scope n x
+root_sound scope x n few deep size patterns stamps actions tokens conditions sets places =
+    let trees = trees_of (root_of x) in
+    let kept = each_of_flat (IsSet scope) sets_in trees sets in
+    root_says scope n x size (record {
+      nodes = few;
       not_deep = deep;
-      nodes = sym size;
-      sound = sound scope t (record {
-        actions = each (IsNumber scope.actions) (actions_in t) actions.0;
-        conditions = (each_of_flat (IsNumber scope.conditions) conditions_in (t ∷ []) conditions).0;
-        stamps = (each_of_flat (IsNumber 100000) stamps_in (t ∷ []) stamps).0;
-        keys = each_more (IsSet scope) _ (sets_in t) (λ ranges h. h.1) kept;
-        ranges = each_more (IsSet scope) _ (sets_in t) (λ ranges h. h.0) kept;
-      });
-    }
-root_sound scope (Scanner ps) n plain deep size stamps actions conditions sets = absurd plain
+      patterns = patterns;
+      actions = each_more (λ (t : Node). All (IsNumber scope.actions) (actions_in t)) (λ (t : Node). Each (IsNumber scope.actions) (actions_in t)) trees (λ t h. each (IsNumber scope.actions) (actions_in t) h) actions;
+      tokens = tokens;
+      conditions = each_of_flat (IsNumber scope.conditions) conditions_in trees conditions;
+      stamps = each_of_flat (IsNumber 100000) stamps_in trees stamps;
+      keys = each_more (λ (t : Node). Each (IsSet scope) (sets_in t)) (λ (t : Node). Each (IsKeySet scope) (sets_in t)) trees (λ t h. each_more (IsSet scope) (IsKeySet scope) (sets_in t) (λ ranges g. g.1) h) kept;
+      ranges = each_more (λ (t : Node). Each (IsSet scope) (sets_in t)) (λ (t : Node). Each IsFewRanges (sets_in t)) trees (λ t h. each_more (IsSet scope) IsFewRanges (sets_in t) (λ ranges g. g.0) h) kept;
+    }) places
 
 made_names : (es : List rust.Entry) → map (λ (m : Made). m.name) (map made_of es) ≡ map (λ (e : rust.Entry). e.name) es
 made_names [] = refl
@@ -127,8 +129,14 @@ module _ (spec : Spec) (files : List (List ℕ)) (draft : Draft) (is : descripti
   embeds : Each (λ (e : rust.Entry). Embeds (length spec.actions) (made_of e)) spec.entries
   embeds = subst (λ z. Each (λ (e : rust.Entry). Embeds (length z) (made_of e)) spec.entries) (sym same_actions) (of_made (Embeds (length draft.actions)) right.embedded)
 
-  plain : Each (λ (e : rust.Entry). IsPlain (root_of e.root)) spec.entries
-  plain = of_made (λ (m : Made). IsPlain m.root) right.plain
+  patterns : Each (λ (e : rust.Entry). HasPatterns (root_of e.root)) spec.entries
+  patterns = of_made (λ (m : Made). HasPatterns m.root) right.patterns
+
+  abbrev HasTokens : ℕ → Made → Type 0
+  HasTokens count m = All (IsNumber count) (token_actions m.root)
+
+  tokens : Each (λ (e : rust.Entry). HasTokens (length spec.actions) (made_of e)) spec.entries
+  tokens = subst (λ z. Each (λ (e : rust.Entry). HasTokens (length z) (made_of e)) spec.entries) (sym same_actions) (of_made (HasTokens (length draft.actions)) right.tokens)
 
   sized : Each (λ (e : rust.Entry). IsMade (made_of e)) spec.entries
   sized = each (λ (e : rust.Entry). IsMade (made_of e)) spec.entries (sizes.sized (meanings draft) spec.entries spec.conds made kept right.within)
@@ -168,22 +176,43 @@ module _ (spec : Spec) (files : List (List ℕ)) (draft : Draft) (is : descripti
   called : Each (λ (a : ActionDef). IsTrue (is_action_name a.name)) spec.actions
   called = subst (Each (λ (a : ActionDef). IsTrue (is_action_name a.name))) (sym same_actions) (each (λ (a : ActionDef). IsTrue (is_action_name a.name)) draft.actions right.named_actions)
 
-  entry_sound : (e : rust.Entry) → IsTrue (is_name e.name) → All (HasFile (length spec.files)) e.places → HasSets e → Knows e → IsMade (made_of e) → IsPlain (root_of e.root) → Embeds (length spec.actions) (made_of e) → IsEntry scope e
-  entry_sound e name places sets known size tree acts = record {
-    name = name;
-    few = omega (arith, size.places, size.few_nodes);
-    root = root_sound scope (root_of e.root) (length e.places) tree size.not_deep size.places
-        (each (IsNumber 100000) (flat_map stamps_in (trees_of (root_of e.root))) size.stamps)
-        (each (λ (t : Node). All (IsNumber (length spec.actions)) (actions_in t)) (trees_of (root_of e.root)) acts)
-        (each (IsNumber (length spec.conds)) (flat_map conditions_in (trees_of (root_of e.root))) known)
-        (each (IsSet scope) (flat_map sets_in (trees_of (root_of e.root))) sets);
-    places = places;
-  }
+  -- what is known of an entry
+  record IsKnown (e : rust.Entry) : Type 0 where
+    name : IsTrue (is_name e.name)
+    places : All (HasFile (length spec.files)) (e.places ++ pattern_places e.root)
+    sets : HasSets e
+    conditions : Knows e
+    size : IsMade (made_of e)
+    patterns : HasPatterns (root_of e.root)
+    tokens : HasTokens (length spec.actions) (made_of e)
+    embeds : Embeds (length spec.actions) (made_of e)
 
-  all_sound : (es : List rust.Entry) → Each (λ (e : rust.Entry). IsTrue (is_name e.name)) es → Each (λ (e : rust.Entry). All (HasFile (length spec.files)) e.places) es → Each HasSets es → Each Knows es
-      → Each (λ (e : rust.Entry). IsMade (made_of e)) es → Each (λ (e : rust.Entry). IsPlain (root_of e.root)) es → Each (λ (e : rust.Entry). Embeds (length spec.actions) (made_of e)) es → Each (IsEntry scope) es
-  all_sound [] a b c d f g h = tt
-  all_sound (e ∷ es) a b c d f g h = (entry_sound e a.0 b.0 c.0 d.0 f.0 g.0 h.0, all_sound es a.1 b.1 c.1 d.1 f.1 g.1 h.1)
+  entry_sound : (e : rust.Entry) → IsKnown e → IsEntry scope e
+  entry_sound e k =
+      let x = root_of e.root in
+      let size = k.size in
+      let files = each (HasFile (length spec.files)) (e.places ++ pattern_places e.root) k.places in
+      record {
+        name = k.name;
+        few = omega (arith, size.places, size.few_nodes);
+        root = root_sound scope e.root (length e.places) size.few_nodes size.not_deep size.places k.patterns
+            (each (IsNumber 100000) (flat_map stamps_in (trees_of x)) size.stamps)
+            (each (λ (t : Node). All (IsNumber (length spec.actions)) (actions_in t)) (trees_of x) k.embeds)
+            (each (IsNumber (length spec.actions)) (token_actions x) k.tokens)
+            (each (IsNumber (length spec.conds)) (flat_map conditions_in (trees_of x)) k.conditions)
+            (each (IsSet scope) (flat_map sets_in (trees_of x)) k.sets)
+            (each_behind (HasFile (length spec.files)) e.places (pattern_places e.root) files);
+        places = all (HasFile (length spec.files)) e.places (each_front (HasFile (length spec.files)) e.places (pattern_places e.root) files);
+      }
+
+  all_sound : (es : List rust.Entry) → Each (λ (e : rust.Entry). IsTrue (is_name e.name)) es → Each (λ (e : rust.Entry). All (HasFile (length spec.files)) (e.places ++ pattern_places e.root)) es → Each HasSets es → Each Knows es
+      → Each (λ (e : rust.Entry). IsMade (made_of e)) es → Each (λ (e : rust.Entry). HasPatterns (root_of e.root)) es → Each (λ (e : rust.Entry). HasTokens (length spec.actions) (made_of e)) es → Each (λ (e : rust.Entry). Embeds (length spec.actions) (made_of e)) es
+      → Each (IsEntry scope) es
+  all_sound [] a b c d f g t h = tt
+  all_sound (e ∷ es) a b c d f g t h = (
+    entry_sound e (record { name = a.0; places = b.0; sets = c.0; conditions = d.0; size = f.0; patterns = g.0; tokens = t.0; embeds = h.0 }),
+    all_sound es a.1 b.1 c.1 d.1 f.1 g.1 t.1 h.1,
+  )
 
   action_sound : (xs : List ActionDef) → Each (λ (a : ActionDef). IsTrue (is_action_name a.name)) xs → Each (λ (a : ActionDef). HasFile (length spec.files) a.place) xs → Each IsFew xs → Each (IsAction (length spec.files)) xs
   action_sound [] a b c = tt
@@ -216,19 +245,28 @@ module _ (spec : Spec) (files : List (List ℕ)) (draft : Draft) (is : descripti
   quiet_entries : Each (λ (e : rust.Entry). HasTurns spec.actions (made_of e)) spec.entries
   quiet_entries = subst (λ z. Each (λ (e : rust.Entry). HasTurns z (made_of e)) spec.entries) (sym same_actions) (of_made (HasTurns draft.actions) right.quiet_turns)
 
-  quiet_root : (x : Root) → IsPlain x → All (λ (t : Node). All (Quiet spec.actions) (turn_actions_in t)) (trees_of x) → IsQuietRoot spec.actions x
-  quiet_root (Plain t) p h = quiet_turns spec.actions t (each (Quiet spec.actions) (turn_actions_in t) (each (λ (t : Node). All (Quiet spec.actions) (turn_actions_in t)) (t ∷ []) h).0)
-  quiet_root (Scanner ps) p h = absurd p
+  abbrev HasPatternActions : List ActionDef → Made → Type 0
+  HasPatternActions actions m = All (λ (t : Node). All (Quiet actions) (actions_in t)) (pattern_trees m.root)
 
-  quiet_roots : (es : List rust.Entry) → Each (λ (e : rust.Entry). IsPlain (root_of e.root)) es → Each (λ (e : rust.Entry). HasTurns spec.actions (made_of e)) es → Each (λ (e : rust.Entry). IsQuietRoot spec.actions (root_of e.root)) es
+  quiet_in_patterns : Each (λ (e : rust.Entry). HasPatternActions spec.actions (made_of e)) spec.entries
+  quiet_in_patterns = subst (λ z. Each (λ (e : rust.Entry). HasPatternActions z (made_of e)) spec.entries) (sym same_actions) (of_made (HasPatternActions draft.actions) right.quiet_patterns)
+
+  each_quiet : (f : Node → List ℕ) (ts : List Node) → All (λ (t : Node). All (Quiet spec.actions) (f t)) ts → Each (λ (t : Node). Each (Quiet spec.actions) (f t)) ts
+  each_quiet f ts h =
+      each_more (λ (t : Node). All (Quiet spec.actions) (f t)) (λ (t : Node). Each (Quiet spec.actions) (f t)) ts (λ t g. each (Quiet spec.actions) (f t) g) (each (λ (t : Node). All (Quiet spec.actions) (f t)) ts h)
+
+  quiet_roots : (es : List rust.Entry) → Each (λ (e : rust.Entry). HasTurns spec.actions (made_of e)) es → Each (λ (e : rust.Entry). HasPatternActions spec.actions (made_of e)) es → Each (λ (e : rust.Entry). IsQuietRoot spec.actions e.root) es
   quiet_roots [] a b = tt
-  quiet_roots (e ∷ es) a b = (quiet_root (root_of e.root) a.0 b.0, quiet_roots es a.1 b.1)
+  quiet_roots (e ∷ es) a b = (
+    turns_root spec.actions e.root (each_quiet turn_actions_in (trees_of (root_of e.root)) a.0) (each_quiet actions_in (pattern_trees (root_of e.root)) b.0),
+    quiet_roots es a.1 b.1,
+  )
 
   quiet : AreQuiet spec
   quiet = record {
     conditions = all (λ (a : ActionId). IsQuiet spec.actions a.0) spec.conds
         (each_more (λ (a : ActionId). Quiet spec.actions a.0) (λ (a : ActionId). IsQuiet spec.actions a.0) spec.conds (λ a h. number_quiet spec.actions a.0 h) quiet_conditions);
-    turns = all (λ (e : rust.Entry). IsQuietRoot spec.actions (root_of e.root)) spec.entries (quiet_roots spec.entries plain quiet_entries);
+    roots = all (λ (e : rust.Entry). IsQuietRoot spec.actions e.root) spec.entries (quiet_roots spec.entries quiet_entries quiet_in_patterns);
   }
 
   few_entries : length spec.entries ≤ 65535
@@ -256,7 +294,7 @@ module _ (spec : Spec) (files : List (List ℕ)) (draft : Draft) (is : descripti
     sound = record {
       machine = subst (λ z. IsTrue (is_name z)) (sym (ap (λ (d : Description). d.machine) is)) right.machine;
       entries = all (IsEntry scope) spec.entries
-          (all_sound spec.entries named (each (λ (e : rust.Entry). All (HasFile (length spec.files)) e.places) spec.entries in_files) sets knows sized plain embeds);
+          (all_sound spec.entries named (each (λ (e : rust.Entry). All (HasFile (length spec.files)) (e.places ++ pattern_places e.root)) spec.entries in_files) sets knows sized patterns tokens embeds);
       actions = all (IsAction (length spec.files)) spec.actions (action_sound spec.actions called placed_actions few_statements);
       conditions = own_conditions;
       writes = placed_writes;
@@ -270,7 +308,7 @@ module _ (spec : Spec) (files : List (List ℕ)) (draft : Draft) (is : descripti
     };
   }
 
-  spec_formed : HasForm spec
+  spec_formed : IsWellFormed spec
   spec_formed = (form_of_answer spec (Ok true) ((λ t. parts), (λ p. refl))).0 refl
 
 -- ---- an outcome
@@ -294,7 +332,9 @@ draft_sound count steps machine draft w f named none leaves h within = record {
   quiet_turns = statements.have_quiet_turns steps machine draft none h;
   own_actions = drafts.have_own_actions steps machine draft h;
   own_entries = drafts.have_own_entries steps machine draft h;
-  plain = drafts.have_plain_entries steps machine draft h;
+  patterns = statements.have_patterns steps machine draft none h;
+  tokens = statements.have_own_tokens steps machine draft none h;
+  quiet_patterns = statements.have_quiet_patterns steps machine draft none h;
   embedded = drafts.embed_own_actions steps machine draft h;
   conditions = drafts.have_own_conditions steps machine draft h;
   few_actions = drafts.have_few_actions steps machine draft none h;
@@ -342,6 +382,6 @@ each_formed files (d ∷ ds) (s ∷ ss) e h =
     let k = heads (description s) (described files d) (map description ss) (map (described files) ds) e in
     ((λ in_files some. spec_formed s files d k.0 h.0 in_files some), each_formed files ds ss k.1 h.1)
 
--- all Specs of a source that is accepted have their form where their tokens are in order
+-- all Specs of a source that is accepted are well-formed where their tokens are in order
 pub formed_as_written : AreFormedAsWritten
 formed_as_written which u ds specs w f h e = all IsFormedInFiles specs (each_formed u.files ds specs e (all_sound_drafts which u ds w f h))

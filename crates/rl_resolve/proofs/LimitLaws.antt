@@ -18,14 +18,15 @@ use Rattle.rl_draft.specs.declared.draft.Definition.{Definition}
 use Rattle.rl_draft.specs.declared.draft.Draft.{Draft}
 use Rattle.rl_names.specs.Actions.{actions_of, action_names}
 use Rattle.rl_names.specs.Answers.{and_then, each, along, or_else, first_of}
-use Rattle.rl_names.specs.Checks.{leaves_fault, unbuilt_fault}
+use Rattle.rl_names.specs.Checks.{leaves_fault}
 use Rattle.rl_names.specs.Drafts.{value_read, definition_read, definition_behind, definitions_by, definitions_behind, scope_of, definitions_with, draft_with, draft_of, drafts_of}
 use Rattle.rl_names.specs.Expressions.{Scope}
 use Rattle.rl_names.specs.Frames.{is_of, machines_of}
 use Rattle.rl_names.specs.Names.{names_fault}
-use Rattle.rl_rewrite.specs.Entries.{meaning, meanings_of, meanings, limit_by, conditions_by, first_limit}
+use Rattle.rl_rewrite.specs.Entries.{meaning, meanings_behind, meanings, limit_by, conditions_by, first_limit}
 use Rattle.rl_rewrite.specs.Entries as entries
-use Rattle.rl_rewrite.specs.Plain.{Plain, plains}
+use Rattle.rl_types.specs.declared.alphabet.Alphabet.{Alphabet}
+use Rattle.rl_rewrite.specs.Plain.{Plain, value_of, value_plain}
 use Rattle.rl_resolve.specs.Limits.{passed_as, passed, same_place, is_defined_at, limit_at, first_in_text, limit_fault}
 use Rattle.rl_resolve.specs.Refusals as refusals
 use Rattle.rl_resolve.specs.Resolving.{machine_fault, instance_fault, drafted, within, outcome}
@@ -180,13 +181,15 @@ module _ (machine : List ℕ) (whole : List Step) where
   at_or_later None place later l e = inr e
   at_or_later (Some kind) place later l e = inl (ap (λ (z : Limit). z.place) (sym (same_some _ l e)))
 
-  limit_stands : (conditions : List ActionId) (ds : List Definition) (ps : List Plain) (l : Limit) → Each Stands ds → first_limit conditions (meanings_of ds ps) ≡ Some l → stands whole machine l.place ≡ true
-  limit_stands conditions [] ps l h e = absurd (none_or_some l e)
-  limit_stands conditions (d ∷ ds) [] l h e = absurd (none_or_some l e)
-  limit_stands conditions (d ∷ ds) (p ∷ ps) l h e = elim (at_or_later (limit_by conditions (meaning d p)) d.place (first_limit (conditions_by conditions (meaning d p)) (meanings_of ds ps)) l e) [
-    | inl here ↦ subst (λ z. stands whole machine z ≡ true) (sym here) h.0
-    | inr later ↦ limit_stands (conditions_by conditions (meaning d p)) ds ps l h.1 later
-  ]
+  limit_stands : (conditions : List ActionId) (alphabet : Alphabet) (ps : List Plain) (ds : List Definition) (l : Limit) → Each Stands ds → first_limit conditions (meanings_behind alphabet ps ds) ≡ Some l → stands whole machine l.place ≡ true
+  limit_stands conditions alphabet ps [] l h e = absurd (none_or_some l e)
+  limit_stands conditions alphabet ps (d ∷ ds) l h e =
+      let m = meaning d (value_of alphabet ps d.value) in
+      let behind = ps ++ value_plain alphabet ps d.value ∷ [] in
+      elim (at_or_later (limit_by conditions m) d.place (first_limit (conditions_by conditions m) (meanings_behind alphabet behind ds)) l e) [
+        | inl here ↦ subst (λ z. stands whole machine z ≡ true) (sym here) h.0
+        | inr later ↦ limit_stands (conditions_by conditions m) alphabet behind ds l h.1 later
+      ]
 
 -- ---- drafts
 
@@ -199,7 +202,7 @@ draft_told steps machine draft h =
     let i = ok_then (definitions_with steps machine (actions_of machine steps)) (λ ds. Ok (draft_with steps machine (actions_of machine steps) ds)) draft h in
     let j = ok_then (action_names (actions_of machine steps)) _ i.0 i.1 in
     subst (IsTold steps) (same_ok (draft_with steps machine (actions_of machine steps) i.0) draft i.2)
-    (λ l e. limit_stands machine steps [] i.0 (plains (draft_with steps machine (actions_of machine steps) i.0).alphabet i.0) l (all_stand machine steps steps [] (scope_of j.0 machine steps) [] i.0 refl tt j.2) e)
+    (λ l e. limit_stands machine steps [] (draft_with steps machine (actions_of machine steps) i.0).alphabet [] i.0 l (all_stand machine steps steps [] (scope_of j.0 machine steps) [] i.0 refl tt j.2) e)
 
 drafts_told : (steps : List Step) (machines : List (List ℕ)) (drafts : List Draft) → each (draft_of steps) machines ≡ Ok drafts → Each (IsTold steps) drafts
 drafts_told steps [] drafts h = subst (Each (IsTold steps)) (same_ok [] drafts h) tt
@@ -237,12 +240,11 @@ read_as files (Err e) x h = absurd (refused_or_ok (refusals.named files e) x h)
 drafted_as : (which : Runs) (u : Unrolled) (drafts : List Draft) → drafted which u ≡ Ok drafts → drafts_of u.steps ≡ Ok drafts
 drafted_as which u drafts h =
     read_as u.files (drafts_of u.steps) drafts
-    (ok_read (refusals.told u.files (unbuilt_fault u.steps)) _ drafts
     (ok_read (refusals.told u.files (instance_fault which u.steps (machines_of u.steps))) _ drafts
     (ok_read (refusals.told u.files (leaves_fault u.steps)) _ drafts
     (ok_read (refusals.told u.files (machine_fault which (machines_of u.steps))) _ drafts
     (ok_read (refusals.stopped u.stop) _ drafts
-    (ok_read (refusals.told u.files (names_fault u.steps)) _ drafts h))))))
+    (ok_read (refusals.told u.files (names_fault u.steps)) _ drafts h)))))
 
 none_found : (files : List (List ℕ)) (o : Option Limit) → refusals.told files (option_map (λ limit. reason.Limit limit) o) ≡ None → o ≡ None
 none_found files None h = refl

@@ -7,7 +7,7 @@ use Rattle.rl_includes.specs.declared.unrolled.Stop.{Stop}
 use Rattle.rl_includes.specs.declared.unrolled.Stop.TheVariants as stop
 use Rattle.rl_includes.specs.declared.unrolled.Unrolled.{Unrolled}
 use Rattle.rl_draft.specs.declared.draft.Draft.{Draft}
-use Rattle.rl_names.specs.Checks.{leaves_fault, unbuilt_fault}
+use Rattle.rl_names.specs.Checks.{leaves_fault}
 use Rattle.rl_names.specs.Drafts.{drafts_of}
 use Rattle.rl_names.specs.Frames.{machines_of}
 use Rattle.rl_names.specs.Names.{names_fault}
@@ -85,10 +85,9 @@ module _ (name : List ℕ) where
   drafted_blames which u h =
       stop_or_behind u.stop _ (blamed_behind u.files (names_fault u.steps) _ h) (λ k.
       not_read u.files (drafts_of u.steps)
-      (blamed_behind u.files (unbuilt_fault u.steps) _
       (blamed_behind u.files (instance_fault which u.steps (machines_of u.steps)) _
       (blamed_behind u.files (leaves_fault u.steps) _
-      (blamed_behind u.files (machine_fault which (machines_of u.steps)) _ k)))))
+      (blamed_behind u.files (machine_fault which (machines_of u.steps)) _ k))))
 
   within_blames : (u : Unrolled) (drafts : List Draft) → within u drafts ≡ Err (refusal.StoreFailed name) → ⊥
   within_blames u drafts h = ok_or_err (refusal.StoreFailed name) drafts (blamed_behind u.files _ (Ok drafts) h)

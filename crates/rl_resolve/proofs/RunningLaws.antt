@@ -25,9 +25,9 @@ use Rattle.rl_names.specs.Expressions.{Scope}
 use Rattle.rl_names.specs.Frames.{is_of, alphabet_of, machines_of}
 use Rattle.rl_names.specs.Checks.{leaves_fault}
 use Rattle.rl_names.specs.Names.{names_fault}
-use Rattle.rl_rewrite.specs.Entries.{Meaning, made_of, meanings_of, meanings_in, meanings, is_entry, entry, entries, conditions_by}
-use Rattle.rl_rewrite.specs.Plain.{Plain, plains}
-use Rattle.rl_rewrite.proofs.NameLaws.{plains_count}
+use Rattle.rl_rewrite.specs.Entries.{Meaning, made_of, meanings_behind, meanings_in, meanings, is_entry, entry, entries, conditions_by}
+use Rattle.rl_rewrite.specs.Plain.{Plain, value_plain}
+use Rattle.rl_types.specs.declared.alphabet.Alphabet.{Alphabet}
 use Rattle.rl_formed.proofs.DraftLaws as drafts
 use Rattle.rl_formed.proofs.ResultLaws.{some_or_none, same_ok, ok_then, not_refused, or_none}
 use Rattle.rl_resolve.specs.Answers.{HasEntry, HasRunning, IsAcceptedAs, is_running}
@@ -102,16 +102,9 @@ module _ (k : Scope) (machine : List ℕ) where
 
 -- ---- entries of what instantiates
 
-no_more : (n : ℕ) → 0 ≡ suc n → ⊥
-no_more n h = omega (arith, h)
-
-one_less : (n m : ℕ) → suc n ≡ suc m → n ≡ m
-one_less n m h = omega (arith, h)
-
-meant : (ds : List Definition) (ps : List Plain) → length ps ≡ length ds → list_any (λ (m : Meaning). is_entry m.sign) (meanings_of ds ps) ≡ instantiate ds
-meant [] ps h = refl
-meant (d ∷ ds) [] h = absurd (no_more (length ds) h)
-meant (d ∷ ds) (p ∷ ps) h = ap (λ z. is_entry d.sign || z) (meant ds ps (one_less (length ps) (length ds) h))
+meant : (alphabet : Alphabet) (ps : List Plain) (ds : List Definition) → list_any (λ (m : Meaning). is_entry m.sign) (meanings_behind alphabet ps ds) ≡ instantiate ds
+meant alphabet ps [] = refl
+meant alphabet ps (d ∷ ds) = ap (λ z. is_entry d.sign || z) (meant alphabet (ps ++ value_plain alphabet ps d.value ∷ []) ds)
 
 some : (n : ℕ) → 1 ≤ suc n
 some n = omega arith
@@ -133,7 +126,7 @@ draft_has steps machine d h g =
     let alphabet = alphabet_of machine steps in
     subst (λ (z : Draft). 1 ≤ length (entries [] (meanings z))) r.is
     (has_made [] (meanings_in alphabet r.definitions)
-    (meant r.definitions (plains alphabet r.definitions) (plains_count alphabet r.definitions) ∙ n))
+    (meant alphabet [] r.definitions ∙ n))
 
 -- ---- Specs
 

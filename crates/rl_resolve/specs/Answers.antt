@@ -8,7 +8,7 @@ use Rattle.rl_model.specs.declared.spec.Spec.{Spec}
 use Rattle.rl_includes.specs.Unrolling.{Unrolls, OnlyEnd, IsFailure}
 use Rattle.rl_includes.specs.declared.unrolled.Unrolled.{Unrolled}
 use Rattle.rl_draft.specs.declared.draft.Draft.{Draft}
-use Rattle.rl_form.specs.Form.{HasForm}
+use Rattle.rl_model.specs.WellFormed.{IsWellFormed}
 use Rattle.rl_resolve.specs.Descriptions.{description, described}
 use Rattle.rl_resolve.specs.Refusals.{Explains}
 use Rattle.rl_resolve.specs.Resolving.{within, outcome}
@@ -82,9 +82,9 @@ IsDueRefusal held file blocks which refusal.Memory = Unit {0}
 abbrev pub HasEntry : Spec → Type 0
 HasEntry spec = 1 ≤ length spec.entries
 
--- it is ready to be built, where it has an entry
+-- it is well-formed, where it has an entry
 abbrev pub IsFormed : Spec → Type 0
-IsFormed spec = HasEntry spec → HasForm spec
+IsFormed spec = HasEntry spec → IsWellFormed spec
 
 abbrev pub is_running : List ℕ → Spec → Bool
 is_running name spec = bytes_eq name spec.machine && nat_lt 0 (length spec.entries)

@@ -1,7 +1,8 @@
--- When the Specs of a source have their form.
-use Rattle.std.specs.Prelude.{◌≡◌, List, map, length, Ok, All}
+-- When the Specs of a source are well-formed.
+use Rattle.std.specs.Prelude.{◌≡◌, ◌++◌, List, map, length, Ok, All}
 use Rattle.rl_model.specs.declared.spec.Entry as rust
 use Rattle.rl_model.specs.declared.spec.Spec.{Spec}
+use Rattle.rl_model.specs.WellFormed.{pattern_places}
 use Rattle.rl_includes.specs.declared.unrolled.Unrolled.{Unrolled}
 use Rattle.rl_draft.specs.declared.draft.Draft.{Draft}
 use Rattle.rl_form.specs.Parts.{HasFile}
@@ -11,11 +12,11 @@ use Rattle.rl_resolve.specs.Descriptions.{description, described}
 use Rattle.rl_resolve.specs.Resolving.{outcome}
 use Rattle.rl_resolve.specs.declared.answer.Runs.{Runs}
 
--- the places of its entries stand in its files
+-- the places of its entries stand in its files, and those of their patterns
 abbrev pub HasEntriesIn : Spec → Type 0
-HasEntriesIn spec = All (λ (e : rust.Entry). All (HasFile (length spec.files)) e.places) spec.entries
+HasEntriesIn spec = All (λ (e : rust.Entry). All (HasFile (length spec.files)) (e.places ++ pattern_places e.root)) spec.entries
 
--- it is ready to be built, where the places of its entries stand in its files
+-- it is well-formed, where it has an entry and these places stand in its files
 abbrev pub IsFormedInFiles : Spec → Type 0
 IsFormedInFiles spec = HasEntriesIn spec → IsFormed spec
 

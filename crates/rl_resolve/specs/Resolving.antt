@@ -14,7 +14,7 @@ use Rattle.rl_grammar.specs.declared.step.Step.{Step}
 use Rattle.rl_includes.specs.declared.unrolled.Unrolled.{Unrolled}
 use Rattle.rl_draft.specs.declared.draft.Draft.{Draft}
 use Rattle.rl_names.specs.Answers.{or_else, first_of}
-use Rattle.rl_names.specs.Checks.{leaves_fault, unbuilt_fault}
+use Rattle.rl_names.specs.Checks.{leaves_fault}
 use Rattle.rl_names.specs.Drafts.{drafts_of}
 use Rattle.rl_names.specs.Frames.{is_of, machines_of}
 use Rattle.rl_names.specs.Leaves.{fault_at}
@@ -88,7 +88,7 @@ instance_fault which steps machines =
 -- ---- the order of refusals
 
 -- Up to the drafts: a fault of names, with the number of names; what an include ended; a machine that is absent; a fault of
--- keys; a machine without instantiations; and what is not built yet.
+-- keys; and a machine without instantiations.
 abbrev pub drafted : Runs → Unrolled → Result (List Draft) ResolveFault
 drafted which u =
     refused (told u.files (names_fault u.steps))
@@ -96,8 +96,7 @@ drafted which u =
     (refused (told u.files (machine_fault which (machines_of u.steps)))
     (refused (told u.files (leaves_fault u.steps))
     (refused (told u.files (instance_fault which u.steps (machines_of u.steps)))
-    (refused (told u.files (unbuilt_fault u.steps))
-    (read_in u.files (drafts_of u.steps)))))))
+    (read_in u.files (drafts_of u.steps))))))
 
 -- the drafts, where their machines pass no limit
 abbrev pub within : Unrolled → List Draft → Result (List Draft) ResolveFault

@@ -16,7 +16,7 @@ pub enum Runs<'a> {
 /// looked up.
 #[derive(Debug, Drop)]
 pub enum ResolveFault {
-    /// A fault: what an included file itself has, F4 to F6, F8, F9, F13, F16 to F18 or F20.
+    /// A fault: what an included file itself has, F4 to F6, F8, F9, F13, F14 or F16 to F18.
     Fault(Fault, Name),
     /// A limit is passed: what an included file itself passes, L2, L4, L5, L7, L9 or L10.
     Limit(Limit, Name),

@@ -12,7 +12,7 @@ use crate::refusals::{check_stop, named, refuse, told};
 use rl_draft::Draft;
 use rl_grammar::Step;
 use rl_includes::Unrolled;
-use rl_names::{check_built, check_leaves, check_names, drafts, machine_names};
+use rl_names::{check_leaves, check_names, drafts, machine_names};
 use rl_types::{List, Name};
 use std::alloc::Global;
 
@@ -53,6 +53,5 @@ pub fn drafted(
     told(alloc, files, check_leaves(alloc, steps))?;
     let without_instance = instance_fault(alloc, which, steps, names.as_slice())?;
     refuse(alloc, files, without_instance)?;
-    told(alloc, files, check_built(alloc, steps))?;
     read(alloc, files, steps)
 }

@@ -17,6 +17,3 @@ mod spec;
 pub use answer::{ResolveFault, Runs};
 pub use forms::specs_are_formed;
 pub use source::resolve;
-
-#[cfg(test)]
-mod tests;

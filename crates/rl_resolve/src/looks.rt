@@ -1,4 +1,4 @@
-// Looks at the form of Specs.
+// Looks whether Specs are well-formed.
 ghost use Rattle.std.specs.Prelude.{◌≡◌, All, MatchResult};
 ghost use Rattle.rl_resolve.specs.Answers.{IsFormed};
 ghost use Rattle.rl_resolve.specs.declared.answer.ResolveFault.TheVariants as refusal;
@@ -24,7 +24,7 @@ fn check_form(alloc: Global, spec: &Spec) -> Result<(), ResolveFault>
     }
 }
 
-/// Each Spec with entries has its form. That it is so follows from how they were made; it is looked at again, and want of
+/// Each Spec with entries is well-formed. That it is so follows from how they were made; it is looked at again, and want of
 /// memory is told where it is not.
 pub fn check_forms(alloc: Global, specs: &[Spec]) -> Result<(), ResolveFault>
     ensures { MatchResult result (λ _. All IsFormed specs.now) (λ e. e ≡ refusal.Memory) }

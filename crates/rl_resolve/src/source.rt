@@ -42,7 +42,7 @@ fn settled(alloc: Global, unrolled: &Unrolled, which: Runs<'_>) -> Result<List<S
     within(alloc, unrolled, drafts)
 }
 
-/// The same, with their form looked at again. The machine that runs is among them.
+/// The same, and whether they are well-formed is looked at again. The machine that runs is among them.
 #[tactic(auto, using(crate::proofs::RunningLaws::accepted_running))]
 fn answered(alloc: Global, unrolled: &Unrolled, which: Runs<'_>) -> Result<List<Spec>, ResolveFault>
     ensures settles { Settles which.entry unrolled.now result }
@@ -64,14 +64,16 @@ fn answered(alloc: Global, unrolled: &Unrolled, which: Runs<'_>) -> Result<List<
 /// - names: F5 where an expression or an action is not defined earlier, F6 where a name is defined twice or `write data`
 ///   stands twice for a machine, L9 at the first name of a machine behind 65,535 others; in the code of actions F13 at a
 ///   word that this profile leaves out or that has not its form, and L10 at an action's fifth control statement at the
-///   outer level; F13 at a condition, to-state or from-state embedding of an action with control statements;
+///   outer level; F13 at a condition, to-state or from-state embedding of an action with control statements, and at a
+///   pattern of a scanner that embeds such an action; F14 at an end-of-file or error embedding in a pattern;
 /// - what ends the reading of includes: F4 where a statement stands before any `machine`, or an `include` names a machine
 ///   that is absent; F17; L2; `Missing`; `StoreFailed`; and what an included file itself has, as its syntax;
 /// - F4 at 1:1 where the source has no machine, or not the one that is to run;
 /// - F8 and F9 at keys and ranges, and F16 at a word of code that names no entry of the machine;
 /// - F18 at the first `write` of a machine without an instantiation; else at 1:1 where the machine that runs has none;
-/// - F20 at the first construct that is not built yet;
 /// - L4, L5 and L7 at the name of an entry.
+///
+/// A pattern has what the names in it bring. That a pattern matches the empty word (F12) is told where its machine is built.
 ///
 /// The statements of an action are what its code says, in text order; an entry that a statement names is given by its
 /// number among the machine's entries, from 1.

@@ -1,7 +1,7 @@
 -- Sizes that are told only up to a million.
 use Rattle.std.proofs.Common.{◌≡◌, ℕ, zero, suc, ◌+◌, ◌-◌, ◌*◌, ◌≤◌, ◌<◌, min, max, Bool, true, false, cond, List, [], ◌∷◌, ◌++◌, take, Option, Some, None, refl, ap, sym, subst, ◌∙◌, arith}
 use Rattle.std.proofs.Common.{inl, inr, map, length, get_or}
-use Rattle.std.proofs.lemmas.Option.{slice_get_read, get_or_from_slice_get}
+use Rattle.std.proofs.lemmas.Option.{slice_get_read}
 use Rattle.std.specs.Prelude.{slice_get, ◌⊎◌}
 use Rattle.std.specs.Option.{option_map, unwrap_or}
 use Rattle.std.proofs.Math.Nat.{mul-le-mul_left, mul-le-mul_right}
@@ -21,7 +21,7 @@ use Rattle.rl_draft.specs.declared.expression.Expression.TheVariants.{Chain, Rep
 use Rattle.rl_draft.specs.declared.expression.Link.{Link}
 use Rattle.rl_rewrite.proofs.ChainLaws.{chain_is, repeated_is, negated_is}
 use Rattle.rl_draft.specs.declared.draft.Definition.{Definition}
-use Rattle.rl_rewrite.proofs.NameLaws.{plains_at, plains_more, plains_count}
+use Rattle.rl_rewrite.proofs.NameLaws.{plains_at, plains_more, plains_count, plains_front}
 use Rattle.rl_rewrite.specs.declared.sizes.Size.{Size}
 use Rattle.rl_rewrite.specs.Plain as p
 use Rattle.rl_rewrite.specs.Plain.{Plain, Operand, plain, operand, joined, chained, repeated, all_repeated, all_negated, whole, item, character, starred, behind, row, named, plains, value_plain}
@@ -29,7 +29,7 @@ use Rattle.rl_rewrite.specs.Walk.{has_copies}
 use Rattle.rl_rewrite.specs.Sizes.{nodes, depth, row_nodes, row_depth, count_nodes, count_depth}
 use Rattle.rl_rewrite.specs.Measures.{measured, cut, IsCut, both, joined_size, chained_size, one, repeated_size, all_repeated_size, whole_size, all_negated_size, item_size, items_size, cut_sizes, AreSizes}
 
-same_size : (a b : Size) → a.nodes ≡ b.nodes → a.depth ≡ b.depth → a ≡ b
+pub same_size : (a b : Size) → a.nodes ≡ b.nodes → a.depth ≡ b.depth → a ≡ b
 same_size a b e f = ap (λ z. record { nodes = z; depth = a.depth }) e ∙ ap (λ z. record { nodes = b.nodes; depth = z }) f
 
 -- ---- products
@@ -358,12 +358,16 @@ cut_length (q ∷ qs) = ap suc (cut_length qs)
 pub sizes_length : (alphabet : Alphabet) (ds : List Definition) (sizes : List Size) → AreSizes alphabet ds sizes → length sizes ≡ length ds
 sizes_length alphabet ds sizes h = ap length h ∙ cut_length (plains alphabet ds) ∙ plains_count alphabet ds
 
--- the size of a definition that is read from the list
-pub size_or : (alphabet : Alphabet) (ds b : List Definition) (sizes : List Size) (i : ℕ) (d : Definition) (other : Size) → AreSizes alphabet ds sizes → i < length ds → d ≡ get_or ds i d
-    → b ≡ take i ds → get_or sizes i other ≡ cut (measured (value_plain alphabet (plains alphabet b) d.value))
-size_or alphabet ds b sizes i d other h lt e l =
-    let got = slice_get_read ds (length ds) i d refl lt e in
-    get_or_from_slice_get sizes i _ other (size_at alphabet ds sizes i d h got) ∙ ap (λ z. cut (measured (value_plain alphabet (plains alphabet z) d.value))) (sym l)
+sizes_take : (qs : List Plain) (i : ℕ) → take i (cut_sizes qs) ≡ cut_sizes (take i qs)
+sizes_take [] zero = refl
+sizes_take [] (suc i) = refl
+sizes_take (q ∷ qs) zero = refl
+sizes_take (q ∷ qs) (suc i) = ap (λ z. cut (measured q) ∷ z) (sizes_take qs i)
+
+-- the sizes of the definitions before one
+pub sizes_front : (alphabet : Alphabet) (ds b : List Definition) (sizes front : List Size) (i : ℕ) → AreSizes alphabet ds sizes → i < length ds → b ≡ take i ds → front ≡ take i sizes → AreSizes alphabet b front
+sizes_front alphabet ds b sizes front i h lt e g =
+    g ∙ ap (take i) h ∙ sizes_take (plains alphabet ds) i ∙ ap cut_sizes (plains_front alphabet ds i (omega (arith, lt))) ∙ ap (λ z. cut_sizes (plains alphabet z)) (sym e)
 
 -- the sizes with that of a definition that is read from the list
 pub sizes_next : (alphabet : Alphabet) (ds b : List Definition) (sizes more : List Size) (s : Size) (i : ℕ) (d : Definition) → AreSizes alphabet (take i ds) sizes → i < length ds → d ≡ get_or ds i d

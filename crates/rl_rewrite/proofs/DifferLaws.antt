@@ -16,10 +16,10 @@ use Rattle.rl_model.specs.WellFormed.{IsNumber}
 use Rattle.rl_rewrite.specs.declared.counts.Counts.{Counts}
 use Rattle.rl_rewrite.specs.declared.layers.Layer.{Layer}
 use Rattle.rl_rewrite.specs.Plain as p
-use Rattle.rl_rewrite.specs.Plain.{Plain, Guard}
-use Rattle.rl_rewrite.specs.Walk.{Placed, Walk, walk, around, first_layers, layer_of, is_first, layered, counted, has_copies, single, guarded_right, guarded_left, new_name, with_new_name, stamped, conditions_before, with_condition, begun}
+use Rattle.rl_rewrite.specs.Plain.{Plain, Guard, PlainPattern, PlainValue}
+use Rattle.rl_rewrite.specs.Walk.{Placed, Walk, walk, walk_patterns, walk_value, around, first_layers, layer_of, is_first, layered, counted, has_copies, single, guarded_right, guarded_left, new_name, with_new_name, stamped, conditions_before, with_condition, begun}
 use Rattle.rl_rewrite.specs.Entries.{Made, Meaning, is_entry, entry, entries, all_conditions, made_by, conditions_by, conditions_behind}
-use Rattle.rl_rewrite.proofs.ConditionLaws.{walk_conditions, walk_grows}
+use Rattle.rl_rewrite.proofs.PatternLaws.{root_conditions, root_grows}
 
 -- ---- what each new condition keeps, a walk keeps
 
@@ -74,8 +74,16 @@ module _ (Q : List ActionId → Type 0) (keep : (x : ActionId) (c : Counts) → 
       let l = first_layers ps c in
       around_keeps ps l.0 at (walk a l.1).0 (walk a l.1).1 (walk_keeps a l.1 (first_keeps ps c h))
 
+  patterns_keep : (qs : List PlainPattern) (c : Counts) → Q c.conditions → Q (walk_patterns qs c).1.conditions
+  patterns_keep [] c h = h
+  patterns_keep (q ∷ qs) c h = patterns_keep qs (walk q.plain c).1 (walk_keeps q.plain c h)
+
+  value_keeps : (v : PlainValue) (c : Counts) → Q c.conditions → Q (walk_value v c).1.conditions
+  value_keeps (p.Expression e) c h = walk_keeps e c h
+  value_keeps (p.Scanner qs at) c h = patterns_keep qs c h
+
   by_case : (b : Bool) (cs : List ActionId) (m : Meaning) → Q cs → Q (cond b (conditions_behind cs m) cs)
-  by_case true cs m h = walk_keeps m.plain (begun cs) h
+  by_case true cs m h = value_keeps m.value (begun cs) h
   by_case false cs m h = h
 
   all_keep : (cs : List ActionId) (ms : List Meaning) → Q cs → Q (all_conditions cs ms)
@@ -134,7 +142,7 @@ conditions_differ ms = all_keep (λ cs. AreDifferent (numbers cs)) keeps_differe
 -- ---- all entries
 
 by_grows : (b : Bool) (cs : List ActionId) (m : Meaning) → length cs ≤ length (cond b (conditions_behind cs m) cs)
-by_grows true cs m = walk_grows m.plain (begun cs)
+by_grows true cs m = root_grows m.value (begun cs)
 by_grows false cs m = omega arith
 
 all_grow : (cs : List ActionId) (ms : List Meaning) → length cs ≤ length (all_conditions cs ms)
@@ -147,10 +155,10 @@ HasKnown count x = All (IsNumber count) (flat_map conditions_in (trees_of x.root
 
 made_known : (b : Bool) (cs : List ActionId) (m : Meaning) (count : ℕ) → length (cond b (conditions_behind cs m) cs) ≤ count → count ≤ 8 → All (HasKnown count) (cond b (entry cs m ∷ []) [])
 made_known true cs m count h g =
-    let x = walk m.plain (begun cs) in
-    All-cons (HasKnown count) (entry cs m) [] (All-append (IsNumber count) (conditions_in x.0.node) []
-    (All-weaker (λ s. (1 ≤ s) × (s ≤ length x.1.conditions)) (IsNumber count) (λ s e. (e.0, omega (arith, e.1, h))) (conditions_in x.0.node) (walk_conditions m.plain (begun cs) (omega (arith, h, g))))
-    (All-nil (IsNumber count))) (All-nil (HasKnown count))
+    let x = walk_value m.value (begun cs) in
+    All-cons (HasKnown count) (entry cs m) []
+    (All-weaker (λ s. (1 ≤ s) × (s ≤ length x.1.conditions)) (IsNumber count) (λ s e. (e.0, omega (arith, e.1, h))) (flat_map conditions_in (trees_of x.0.root)) (root_conditions m.value (begun cs) (omega (arith, h, g))))
+    (All-nil (HasKnown count))
 made_known false cs m count h g = All-nil (HasKnown count)
 
 entries_known : (cs : List ActionId) (ms : List Meaning) (count : ℕ) → length (all_conditions cs ms) ≤ count → count ≤ 8 → All (HasKnown count) (entries cs ms)

@@ -1,5 +1,5 @@
 -- The sets of what a draft's definitions stand for.
-use Rattle.std.proofs.Common.{◌<ℤ◌, arith, ◌≡◌, ℕ, zero, suc, ◌++◌, Bool, true, false, cond, List, [], ◌∷◌, map, Option, Some, None, refl, ap, sym, subst, ◌∙◌}
+use Rattle.std.proofs.Common.{◌<ℤ◌, arith, ◌≡◌, ◌≢◌, ℕ, zero, suc, ◌++◌, Bool, true, false, cond, List, [], ◌∷◌, map, Option, Some, None, refl, ap, sym, subst, ◌∙◌}
 use Rattle.std.specs.Prelude.{All, slice_get, option_to_list}
 use Rattle.std.specs.List.{flat_map}
 use Rattle.std.proofs.lemmas.Int.{ints}
@@ -24,10 +24,12 @@ use Rattle.rl_draft.specs.declared.expression.Negation.{Negation}
 use Rattle.rl_draft.specs.declared.expression.Negation.TheVariants as negation
 use Rattle.rl_draft.specs.declared.expression.NegationSign.{NegationSign}
 use Rattle.rl_rewrite.specs.Plain as p
-use Rattle.rl_rewrite.specs.Plain.{Plain, Operand, any, joined, repeated, all_repeated, all_negated, whole, item, character, starred, behind, row, leaf_plain, chained, named, no_place, expression_step, link_step, plain, operand, value_plain, plains_behind, plains}
+use Rattle.rl_rewrite.specs.Plain.{Plain, PlainPattern, PlainValue, pattern_plain, value_of, as_name, Operand, any, joined, repeated, all_repeated, all_negated, whole, item, character, starred, behind, row, leaf_plain, chained, named, no_place, expression_step, link_step, plain, operand}
 use Rattle.rl_rewrite.specs.Drafts as drafts
-use Rattle.rl_rewrite.specs.Drafts.{Sets, leaf_sets, sets, expressions, IsSet, HasSetsInForm}
-use Rattle.rl_rewrite.proofs.SetLaws.{AreSets, walk_sets}
+use Rattle.rl_rewrite.specs.Drafts.{Sets, leaf_sets, sets, expressions, IsSet, HasSetsInForm, HasPattern, HasScannersInForm}
+use Rattle.rl_rewrite.specs.declared.counts.Counts.{Counts}
+use Rattle.rl_rewrite.proofs.SetLaws.{AreSets}
+use Rattle.rl_rewrite.proofs.PatternLaws.{ArePatternSets, AreValueSets, root_sets}
 use Rattle.rl_rewrite.proofs.EntryLaws.{all_map}
 use Rattle.rl_types.specs.declared.alphabet.Alphabet.TheVariants as alphabets
 use Rattle.rl_types.specs.declared.numbers.ActionId.{ActionId}
@@ -35,13 +37,14 @@ use Rattle.rl_automata.specs.Refused.{sets_in}
 use Rattle.rl_model.specs.declared.spec.Entry as rust
 use Rattle.rl_model.specs.Specification.{root_of}
 use Rattle.rl_model.specs.Counts.{trees_of}
-use Rattle.rl_model.specs.WellFormed.{IsInAlphabet}
+use Rattle.rl_model.specs.WellFormed.{IsInAlphabet, HasPatterns}
 use Rattle.rl_draft.specs.declared.draft.Definition.{Definition}
 use Rattle.rl_draft.specs.declared.draft.Draft.{Draft}
+use Rattle.rl_draft.specs.declared.draft.Pattern.{Pattern}
 use Rattle.rl_draft.specs.declared.draft.Value.{Value}
 use Rattle.rl_draft.specs.declared.draft.Value.TheVariants as value
-use Rattle.rl_rewrite.specs.Walk.{walk, begun}
-use Rattle.rl_rewrite.specs.Entries.{Made, Meaning, made_of, meaning, meanings, meanings_of, is_entry, entry, entries, made_by, conditions_by}
+use Rattle.rl_rewrite.specs.Walk.{walk_patterns, walk_value, begun}
+use Rattle.rl_rewrite.specs.Entries.{Made, Meaning, made_of, meaning, meanings, meanings_in, meanings_behind, is_entry, entry, entries, made_by, conditions_by}
 
 all_left : {X : Type 0} (P : X → Type 0) (xs ys : List X) → All P (xs ++ ys) → All P xs
 all_left P [] ys h = All-nil P
@@ -161,42 +164,51 @@ module _ (alphabet : Alphabet) (P : List Range → Type 0) (h_any : P (any alpha
 
 -- ---- all definitions
 
--- the sets of its expression
-abbrev AreValueSets : (List Range → Type 0) → Value → Type 0
-AreValueSets P v = All (λ e. All P (sets e)) (expressions v)
+-- the sets of its expressions
+abbrev AreWritten : (List Range → Type 0) → Value → Type 0
+AreWritten P v = All (λ e. All P (sets e)) (expressions v)
 
-value_sets : (alphabet : Alphabet) (P : List Range → Type 0) → P (any alphabet) → (known : List Plain) → All (AreSets P) known → (v : Value) → AreValueSets P v → AreSets P (value_plain alphabet known v)
-value_sets alphabet P h known k (value.Expression e) g = plain_sets alphabet P h known k e (All-head (λ z. All P (sets z)) e [] g)
-value_sets alphabet P h known k (value.Scanner ps) g = tt
+module _ (alphabet : Alphabet) (P : List Range → Type 0) (h_any : P (any alphabet)) where
+  patterns_written : (known : List Plain) → All (AreSets P) known → (ps : List Pattern) → All (λ e. All P (sets e)) (map (λ (x : Pattern). x.expression) ps) → ArePatternSets P (map (pattern_plain alphabet known) ps)
+  patterns_written known k [] g = tt
+  patterns_written known k (x ∷ ps) g =
+      let Q : Expression → Type 0 = λ e. All P (sets e) in
+      let es = map (λ (y : Pattern). y.expression) ps in
+      (plain_sets alphabet P h_any known k x.expression (All-head Q x.expression es g), patterns_written known k ps (All-tail Q x.expression es g))
 
-plains_sets : (alphabet : Alphabet) (P : List Range → Type 0) → P (any alphabet) → (known : List Plain) → All (AreSets P) known → (ds : List Definition)
-    → All (λ e. All P (sets e)) (flat_map (λ (d : Definition). expressions d.value) ds) → All (AreSets P) (plains_behind alphabet known ds)
-plains_sets alphabet P h known k [] g = k
-plains_sets alphabet P h known k (d ∷ ds) g =
-    let Q : Expression → Type 0 = λ e. All P (sets e) in
-    let ys = flat_map (λ (x : Definition). expressions x.value) ds in
-    let v = value_plain alphabet known d.value in
-    plains_sets alphabet P h (known ++ v ∷ [])
-    (All-append (AreSets P) known (v ∷ []) k (All-cons (AreSets P) v [] (value_sets alphabet P h known k d.value (all_left Q (expressions d.value) ys g)) (All-nil (AreSets P)))) ds (all_right Q (expressions d.value) ys g)
+  value_sets : (known : List Plain) → All (AreSets P) known → (v : Value) → AreWritten P v → AreValueSets P (value_of alphabet known v)
+  value_sets known k (value.Expression e) g = plain_sets alphabet P h_any known k e (All-head (λ z. All P (sets z)) e [] g)
+  value_sets known k (value.Scanner ps at) g = patterns_written known k ps g
 
-meanings_sets : (P : List Range → Type 0) (ds : List Definition) (ps : List Plain) → All (AreSets P) ps → All (λ (m : Meaning). AreSets P m.plain) (meanings_of ds ps)
-meanings_sets P [] ps h = All-nil (λ (m : Meaning). AreSets P m.plain)
-meanings_sets P (d ∷ ds) [] h = All-nil (λ (m : Meaning). AreSets P m.plain)
-meanings_sets P (d ∷ ds) (q ∷ ps) h = All-cons (λ (m : Meaning). AreSets P m.plain) (meaning d q) (meanings_of ds ps) (All-head (AreSets P) q ps h) (meanings_sets P ds ps (All-tail (AreSets P) q ps h))
+  name_sets : (v : PlainValue) → AreValueSets P v → AreSets P (as_name v)
+  name_sets (p.Expression e) h = h
+  name_sets (p.Scanner qs at) h = tt
+
+  abbrev HasMeantSets : Meaning → Type 0
+  HasMeantSets m = AreValueSets P m.value
+
+  meanings_sets : (known : List Plain) → All (AreSets P) known → (ds : List Definition) → All (λ e. All P (sets e)) (flat_map (λ (d : Definition). expressions d.value) ds) → All HasMeantSets (meanings_behind alphabet known ds)
+  meanings_sets known k [] g = All-nil HasMeantSets
+  meanings_sets known k (d ∷ ds) g =
+      let Q : Expression → Type 0 = λ e. All P (sets e) in
+      let ys = flat_map (λ (x : Definition). expressions x.value) ds in
+      let v = value_of alphabet known d.value in
+      let h = value_sets known k d.value (all_left Q (expressions d.value) ys g) in
+      let more = All-append (AreSets P) known (as_name v ∷ []) k (All-cons (AreSets P) (as_name v) [] (name_sets v h) (All-nil (AreSets P))) in
+      All-cons HasMeantSets (meaning d v) (meanings_behind alphabet (known ++ as_name v ∷ []) ds) h (meanings_sets (known ++ as_name v ∷ []) more ds (all_right Q (expressions d.value) ys g))
 
 -- the sets of an entry's expression
 abbrev HasMadeSets : (List Range → Type 0) → Made → Type 0
 HasMadeSets P x = All P (flat_map sets_in (trees_of x.root))
 
-made_sets : (P : List Range → Type 0) (b : Bool) (cs : List ActionId) (m : Meaning) → AreSets P m.plain → All (HasMadeSets P) (cond b (entry cs m ∷ []) [])
-made_sets P true cs m h = All-cons (HasMadeSets P) (entry cs m) []
-    (All-append P (sets_in (walk m.plain (begun cs)).0.node) [] (walk_sets P m.plain (begun cs) h) (All-nil P)) (All-nil (HasMadeSets P))
+made_sets : (P : List Range → Type 0) (b : Bool) (cs : List ActionId) (m : Meaning) → AreValueSets P m.value → All (HasMadeSets P) (cond b (entry cs m ∷ []) [])
+made_sets P true cs m h = All-cons (HasMadeSets P) (entry cs m) [] (root_sets P m.value (begun cs) h) (All-nil (HasMadeSets P))
 made_sets P false cs m h = All-nil (HasMadeSets P)
 
-entries_sets : (P : List Range → Type 0) (cs : List ActionId) (ms : List Meaning) → All (λ (m : Meaning). AreSets P m.plain) ms → All (HasMadeSets P) (entries cs ms)
+entries_sets : (P : List Range → Type 0) (cs : List ActionId) (ms : List Meaning) → All (λ (m : Meaning). AreValueSets P m.value) ms → All (HasMadeSets P) (entries cs ms)
 entries_sets P cs [] h = All-nil (HasMadeSets P)
 entries_sets P cs (m ∷ ms) h =
-    let Q = λ (x : Meaning). AreSets P x.plain in
+    let Q = λ (x : Meaning). AreValueSets P x.value in
     All-append (HasMadeSets P) (made_by cs m) (entries (conditions_by cs m) ms) (made_sets P (is_entry m.sign) cs m (All-head Q m ms h))
     (entries_sets P (conditions_by cs m) ms (All-tail Q m ms h))
 
@@ -225,9 +237,57 @@ pub entries_in_form : (draft : Draft) (es : List rust.Entry) → HasSetsInForm d
     → All (λ (e : rust.Entry). All (IsSet draft.alphabet) (flat_map sets_in (trees_of (root_of e.root)))) es
 entries_in_form draft es h e =
     let P = IsSet draft.alphabet in
-    let ps = plains_sets draft.alphabet P (any_is_set draft.alphabet) [] (All-nil (AreSets P)) draft.definitions h in
-    all_map (HasMadeSets P) made_of es (subst (All (HasMadeSets P)) (sym e) (entries_sets P [] (meanings draft) (meanings_sets P draft.definitions (plains draft.alphabet draft.definitions) ps)))
+    let ms = meanings_sets draft.alphabet P (any_is_set draft.alphabet) [] (All-nil (AreSets P)) draft.definitions h in
+    all_map (HasMadeSets P) made_of es (subst (All (HasMadeSets P)) (sym e) (entries_sets P [] (meanings draft) ms))
 
-pub sets_at_end : (draft : Draft) (ds : List Definition) (es : List rust.Entry) → HasSetsInForm draft → ds ≡ draft.definitions → map made_of es ≡ entries [] (meanings_of ds (plains draft.alphabet ds))
+pub sets_at_end : (draft : Draft) (ds : List Definition) (es : List rust.Entry) → HasSetsInForm draft → ds ≡ draft.definitions → map made_of es ≡ entries [] (meanings_in draft.alphabet ds)
     → All (λ (e : rust.Entry). All (IsSet draft.alphabet) (flat_map sets_in (trees_of (root_of e.root)))) es
-sets_at_end draft ds es h s e = entries_in_form draft es h (e ∙ ap (λ z. entries [] (meanings_of z (plains draft.alphabet z))) s)
+sets_at_end draft ds es h s e = entries_in_form draft es h (e ∙ ap (λ z. entries [] (meanings_in draft.alphabet z)) s)
+
+-- ---- patterns
+
+-- it is no scanner without patterns
+abbrev HasOne : PlainValue → Type 0
+HasOne (p.Expression e) = Unit {0}
+HasOne (p.Scanner qs at) = qs ≢ []
+
+some_map : {X Y : Type 0} (f : X → Y) (xs : List X) → xs ≢ [] → map f xs ≢ []
+some_map f [] h e = h refl
+some_map f (x ∷ xs) h e = absurd (cc)
+
+has_one : (alphabet : Alphabet) (known : List Plain) (v : Value) → HasPattern v → HasOne (value_of alphabet known v)
+has_one alphabet known (value.Expression e) h = tt
+has_one alphabet known (value.Scanner ps at) h = some_map (pattern_plain alphabet known) ps h
+
+some_walked : (qs : List PlainPattern) (c : Counts) → qs ≢ [] → (walk_patterns qs c).0.patterns ≢ []
+some_walked [] c h e = h refl
+some_walked (q ∷ qs) c h e = absurd (cc)
+
+root_has : (v : PlainValue) (c : Counts) → HasOne v → HasPatterns (walk_value v c).0.root
+root_has (p.Expression e) c h = tt
+root_has (p.Scanner qs at) c h = some_walked qs c h
+
+abbrev HasMadeOne : Made → Type 0
+HasMadeOne x = HasPatterns x.root
+
+abbrev HasMeantOne : Meaning → Type 0
+HasMeantOne m = HasOne m.value
+
+made_one : (b : Bool) (cs : List ActionId) (m : Meaning) → HasMeantOne m → All HasMadeOne (cond b (entry cs m ∷ []) [])
+made_one true cs m h = All-cons HasMadeOne (entry cs m) [] (root_has m.value (begun cs) h) (All-nil HasMadeOne)
+made_one false cs m h = All-nil HasMadeOne
+
+entries_one : (alphabet : Alphabet) (known : List Plain) (cs : List ActionId) (ds : List Definition) → All (λ (d : Definition). HasPattern d.value) ds → All HasMadeOne (entries cs (meanings_behind alphabet known ds))
+entries_one alphabet known cs [] h = All-nil HasMadeOne
+entries_one alphabet known cs (d ∷ ds) h =
+    let Q = λ (x : Definition). HasPattern x.value in
+    let v = value_of alphabet known d.value in
+    let m = meaning d v in
+    All-append HasMadeOne (made_by cs m) (entries (conditions_by cs m) (meanings_behind alphabet (known ++ as_name v ∷ []) ds))
+    (made_one (is_entry m.sign) cs m (has_one alphabet known d.value (All-head Q d ds h))) (entries_one alphabet (known ++ as_name v ∷ []) (conditions_by cs m) ds (All-tail Q d ds h))
+
+-- each entry that is a scanner has a pattern
+pub patterns_at_end : (draft : Draft) (ds : List Definition) (es : List rust.Entry) → HasScannersInForm draft → ds ≡ draft.definitions → map made_of es ≡ entries [] (meanings_in draft.alphabet ds)
+    → All (λ (e : rust.Entry). HasPatterns (root_of e.root)) es
+patterns_at_end draft ds es h s e =
+    all_map HasMadeOne made_of es (subst (All HasMadeOne) (sym (e ∙ ap (λ z. entries [] (meanings_in draft.alphabet z)) s)) (entries_one draft.alphabet [] [] draft.definitions h))

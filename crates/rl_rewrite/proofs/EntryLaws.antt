@@ -11,21 +11,18 @@ use Rattle.rl_types.specs.declared.faults.Limit.{Limit}
 use Rattle.rl_types.specs.declared.faults.LimitKind.{LimitKind}
 use Rattle.rl_types.specs.declared.faults.LimitKind.TheVariants.{L4, L5, L7}
 use Rattle.rl_draft.specs.declared.draft.Definition.{Definition}
-use Rattle.rl_model.specs.Counts.{size_of, depth_of, stamps_in}
+use Rattle.rl_model.specs.Counts.{stamps_in, root_size, root_depth}
 use Rattle.rl_model.specs.WellFormed.{IsNumber}
 use Rattle.rl_rewrite.specs.declared.sizes.Size.{Size}
 use Rattle.rl_rewrite.specs.declared.entries.Rewritten.{Rewritten}
 use Rattle.rl_rewrite.specs.declared.entries.RewriteFault.{RewriteFault}
 use Rattle.rl_rewrite.specs.declared.entries.RewriteFault.TheVariants as fault
-use Rattle.rl_rewrite.specs.Plain.{Plain, value_plain, plains}
-use Rattle.rl_rewrite.specs.Walk.{walk, begun}
-use Rattle.rl_rewrite.specs.Sizes.{nodes, depth}
-use Rattle.rl_rewrite.specs.Measures.{measured, cut}
-use Rattle.rl_rewrite.specs.Entries.{Made, Meaning, made_of, meaning, meanings_of, is_entry, entry, entries, all_conditions, first_limit, limit_at, limit_by, limit_of, made_by, conditions_by, size_limit, condition_limit, earlier_limit, conditions_behind, IsMade, IsRefusal, AreSoFar, IsNext}
-use Rattle.rl_rewrite.proofs.SizeLaws.{walk_nodes, walk_depth}
-use Rattle.rl_rewrite.proofs.StampLaws.{walk_stamps}
-use Rattle.rl_rewrite.proofs.PlaceLaws.{walk_whole}
-use Rattle.rl_rewrite.proofs.NameLaws.{plains_at, plains_count}
+use Rattle.rl_rewrite.specs.Plain.{Plain, PlainValue, value_of, value_plain, plains_behind, value_behind}
+use Rattle.rl_rewrite.specs.Walk.{walk_value, begun}
+use Rattle.rl_rewrite.specs.Sizes.{value_nodes, value_depth}
+use Rattle.rl_rewrite.specs.Measures.{value_measured, cut}
+use Rattle.rl_rewrite.specs.Entries.{Made, Meaning, made_of, meaning, meanings_behind, meanings_in, is_entry, entry, entries, all_conditions, first_limit, limit_at, limit_by, limit_of, made_by, conditions_by, size_limit, condition_limit, earlier_limit, conditions_behind, IsMade, IsRefusal, AreSoFar, IsNext}
+use Rattle.rl_rewrite.proofs.PatternLaws.{root_nodes, root_deep, root_stamps, root_whole}
 use Rattle.std.proofs.Common.{get_or}
 use Rattle.std.specs.Prelude.{Result, Ok, Err, IfOk, IfErr}
 use Rattle.rl_automata.specs.Refused.{AreDifferent, conditions_in}
@@ -40,19 +37,19 @@ use Rattle.std.proofs.lemmas.Option.{slice_get_read}
 lt_cut : (k n : ℕ) → k < 1000000 → nat_lt k (min 1000000 n) ≡ nat_lt k n
 lt_cut k n h = grind (arith, nat_tests)
 
-cut_limit : (q : Plain) (s : Size) → s ≡ cut (measured q) → size_limit s.nodes s.depth ≡ size_limit (nodes q) (depth q)
+cut_limit : (q : PlainValue) (s : Size) → s ≡ cut (value_measured q) → size_limit s.nodes s.depth ≡ size_limit (value_nodes q) (value_depth q)
 cut_limit q s e =
     ap (λ z. size_limit z.nodes z.depth) e
-    ∙ ap (λ z. cond z (Some L4) (cond (nat_lt 2000 (min 1000000 (depth q))) (Some L5) None)) (lt_cut 100000 (nodes q) (omega arith))
-    ∙ ap (λ z. cond (nat_lt 100000 (nodes q)) (Some L4) (cond z (Some L5) None)) (lt_cut 2000 (depth q) (omega arith))
+    ∙ ap (λ z. cond z (Some L4) (cond (nat_lt 2000 (min 1000000 (value_depth q))) (Some L5) None)) (lt_cut 100000 (value_nodes q) (omega arith))
+    ∙ ap (λ z. cond (nat_lt 100000 (value_nodes q)) (Some L4) (cond z (Some L5) None)) (lt_cut 2000 (value_depth q) (omega arith))
 
-walked_limit : (cs : List ActionId) (m : Meaning) (s : Size) → s ≡ cut (measured m.plain)
+walked_limit : (cs : List ActionId) (m : Meaning) (s : Size) → s ≡ cut (value_measured m.value)
     → limit_of cs m ≡ earlier_limit (size_limit s.nodes s.depth) (condition_limit (conditions_behind cs m))
 walked_limit cs m s e =
-    let x = walk m.plain (begun cs) in
-    ap (λ z. earlier_limit (size_limit z (depth_of x.0.node)) (condition_limit x.1.conditions)) (walk_nodes m.plain (begun cs))
-    ∙ ap (λ z. earlier_limit (size_limit (nodes m.plain) z) (condition_limit x.1.conditions)) (walk_depth m.plain (begun cs))
-    ∙ ap (λ z. earlier_limit z (condition_limit x.1.conditions)) (sym (cut_limit m.plain s e))
+    let x = walk_value m.value (begun cs) in
+    ap (λ z. earlier_limit (size_limit z (root_depth x.0.root)) (condition_limit x.1.conditions)) (root_nodes m.value (begun cs))
+    ∙ ap (λ z. earlier_limit (size_limit (value_nodes m.value) z) (condition_limit x.1.conditions)) (root_deep m.value (begun cs))
+    ∙ ap (λ z. earlier_limit z (condition_limit x.1.conditions)) (sym (cut_limit m.value s e))
 
 no_limit_nodes : (a b : Bool) → cond a (Some L4) (cond b (Some L5) None) ≡ None → a ≡ false
 no_limit_nodes true b e = absurd (cc)
@@ -67,8 +64,8 @@ not_above : (k n : ℕ) → nat_lt k n ≡ false → n ≤ k
 not_above k n e = grind (arith, nat_tests)
 
 -- what passes no limit has few nodes
-pub few_nodes : (q : Plain) (s : Size) → s ≡ cut (measured q) → size_limit s.nodes s.depth ≡ None → nodes q ≤ 100000
-few_nodes q s e h = not_above 100000 (nodes q) (no_limit_nodes (nat_lt 100000 (nodes q)) (nat_lt 2000 (depth q)) (sym (cut_limit q s e) ∙ h))
+pub few_nodes : (q : PlainValue) (s : Size) → s ≡ cut (value_measured q) → size_limit s.nodes s.depth ≡ None → value_nodes q ≤ 100000
+few_nodes q s e h = not_above 100000 (value_nodes q) (no_limit_nodes (nat_lt 100000 (value_nodes q)) (nat_lt 2000 (value_depth q)) (sym (cut_limit q s e) ∙ h))
 
 -- ---- one definition
 
@@ -76,20 +73,20 @@ limit_case : (b : Bool) (l : Option LimitKind) → b ≡ true → cond b l None 
 limit_case true l e = refl
 limit_case false l e = absurd (cc)
 
-limit_is : (cs : List ActionId) (m : Meaning) (s : Size) → is_entry m.sign ≡ true → s ≡ cut (measured m.plain)
+limit_is : (cs : List ActionId) (m : Meaning) (s : Size) → is_entry m.sign ≡ true → s ≡ cut (value_measured m.value)
     → limit_by cs m ≡ earlier_limit (size_limit s.nodes s.depth) (condition_limit (conditions_behind cs m))
 limit_is cs m s e h = limit_case (is_entry m.sign) (limit_of cs m) e ∙ walked_limit cs m s h
 
-pub refused_size : (cs : List ActionId) (m : Meaning) (s : Size) (kind : LimitKind) → is_entry m.sign ≡ true → s ≡ cut (measured m.plain) → size_limit s.nodes s.depth ≡ Some kind
+pub refused_size : (cs : List ActionId) (m : Meaning) (s : Size) (kind : LimitKind) → is_entry m.sign ≡ true → s ≡ cut (value_measured m.value) → size_limit s.nodes s.depth ≡ Some kind
     → limit_at (limit_by cs m) m.place None ≡ Some (record { kind = kind; place = m.place })
 refused_size cs m s kind e h k =
     ap (λ z. limit_at z m.place None) (limit_is cs m s e h ∙ ap (λ z. earlier_limit z (condition_limit (conditions_behind cs m))) k)
 
-small_limit : (cs : List ActionId) (m : Meaning) (s : Size) → is_entry m.sign ≡ true → s ≡ cut (measured m.plain) → size_limit s.nodes s.depth ≡ None
+small_limit : (cs : List ActionId) (m : Meaning) (s : Size) → is_entry m.sign ≡ true → s ≡ cut (value_measured m.value) → size_limit s.nodes s.depth ≡ None
     → limit_by cs m ≡ condition_limit (conditions_behind cs m)
 small_limit cs m s e h k = limit_is cs m s e h ∙ ap (λ z. earlier_limit z (condition_limit (conditions_behind cs m))) k
 
-pub refused_small : (cs : List ActionId) (m : Meaning) (s : Size) (f : RewriteFault) → is_entry m.sign ≡ true → s ≡ cut (measured m.plain) → size_limit s.nodes s.depth ≡ None
+pub refused_small : (cs : List ActionId) (m : Meaning) (s : Size) (f : RewriteFault) → is_entry m.sign ≡ true → s ≡ cut (value_measured m.value) → size_limit s.nodes s.depth ≡ None
     → IsRefusal (limit_at (condition_limit (conditions_behind cs m)) m.place None) f → IsRefusal (limit_at (limit_by cs m) m.place None) f
 refused_small cs m s f e h k r = subst (λ z. IsRefusal (limit_at z m.place None) f) (sym (small_limit cs m s e h k)) r
 
@@ -107,7 +104,7 @@ conditions_case : (b : Bool) (xs ys : List ActionId) → b ≡ true → xs ≡ c
 conditions_case true xs ys e = refl
 conditions_case false xs ys e = absurd (cc)
 
-pub next_entry : (m : Meaning) (r1 r2 : Rewritten) (s : Size) → is_entry m.sign ≡ true → s ≡ cut (measured m.plain) → size_limit s.nodes s.depth ≡ None
+pub next_entry : (m : Meaning) (r1 r2 : Rewritten) (s : Size) → is_entry m.sign ≡ true → s ≡ cut (value_measured m.value) → size_limit s.nodes s.depth ≡ None
     → map made_of r2.entries ≡ map made_of r1.entries ++ entry r1.conditions m ∷ [] → r2.conditions ≡ conditions_behind r1.conditions m → length r2.conditions ≤ 8 → IsNext m r1 r2
 next_entry m r1 r2 s e h k a b f = record {
   made = a ∙ ap (λ z. map made_of r1.entries ++ z) (made_case (is_entry m.sign) (entry r1.conditions m) e);
@@ -160,26 +157,22 @@ pub so_far_refused : (m : Meaning) (rest all : List Meaning) (r : Rewritten) (f 
 so_far_refused m rest all r (fault.Limit l) h k = sym h.limit ∙ sooner (limit_by r.conditions m) m.place l (first_limit (conditions_by r.conditions m) rest) k
 so_far_refused m rest all r fault.Memory h k = tt
 
-abbrev given : {X : Type 0} → X → Option X → X
+abbrev given : Definition → Option Definition → Definition
 given d None = d
 given d (Some x) = x
 
-given_by : {X : Type 0} (d : X) (a b : Option X) → a ≡ b → given d a ≡ given d b
-given_by d a b e = ap (given d) e
-
-drop_meanings : (ds : List Definition) (ps : List Plain) (i : ℕ) (d : Definition) (p : Plain) → slice_get ds i ≡ Some d → slice_get ps i ≡ Some p
-    → drop i (meanings_of ds ps) ≡ meaning d p ∷ drop (suc i) (meanings_of ds ps)
-drop_meanings [] ps i d p e h = absurd (cc)
-drop_meanings (x ∷ ds) [] i d p e h = absurd (cc)
-drop_meanings (x ∷ ds) (y ∷ ps) zero d p e h = ap (λ z. meaning z y ∷ meanings_of ds ps) (given_by d (Some x) (Some d) e) ∙ ap (λ z. meaning d z ∷ meanings_of ds ps) (given_by p (Some y) (Some p) h)
-drop_meanings (x ∷ ds) (y ∷ ps) (suc i) d p e h = drop_meanings ds ps i d p e h
+meaning_behind : (alphabet : Alphabet) (known : List Plain) (ds : List Definition) (i : ℕ) (d : Definition) → slice_get ds i ≡ Some d
+    → drop i (meanings_behind alphabet known ds) ≡ meaning d (value_of alphabet (plains_behind alphabet known (take i ds)) d.value) ∷ drop (suc i) (meanings_behind alphabet known ds)
+meaning_behind alphabet known [] i d e = absurd (cc)
+meaning_behind alphabet known (x ∷ ds) zero d e =
+    ap (λ z. meaning z (value_of alphabet known z.value) ∷ meanings_behind alphabet (known ++ value_plain alphabet known x.value ∷ []) ds) (ap (given d) e)
+meaning_behind alphabet known (x ∷ ds) (suc i) d e = meaning_behind alphabet (known ++ value_plain alphabet known x.value ∷ []) ds i d e
 
 pub next_meaning : (alphabet : Alphabet) (ds : List Definition) (i : ℕ) (d : Definition) → slice_get ds i ≡ Some d
-    → drop i (meanings_of ds (plains alphabet ds)) ≡ meaning d (value_plain alphabet (plains alphabet (take i ds)) d.value) ∷ drop (i + 1) (meanings_of ds (plains alphabet ds))
+    → drop i (meanings_in alphabet ds) ≡ meaning d (value_behind alphabet (take i ds) d.value) ∷ drop (i + 1) (meanings_in alphabet ds)
 next_meaning alphabet ds i d e =
     let s : suc i ≡ i + 1 = omega arith in
-    drop_meanings ds (plains alphabet ds) i d (value_plain alphabet (plains alphabet (take i ds)) d.value) e (plains_at alphabet ds i d e)
-    ∙ ap (λ z. meaning d (value_plain alphabet (plains alphabet (take i ds)) d.value) ∷ drop z (meanings_of ds (plains alphabet ds))) s
+    meaning_behind alphabet [] ds i d e ∙ ap (λ z. meaning d (value_behind alphabet (take i ds) d.value) ∷ drop z (meanings_in alphabet ds)) s
 
 -- ---- what is promised of each
 
@@ -189,15 +182,15 @@ no_earlier (Some kind) b e = absurd (cc)
 
 entry_made : (cs : List ActionId) (m : Meaning) → limit_of cs m ≡ None → IsMade (entry cs m)
 entry_made cs m e =
-    let x = walk m.plain (begun cs) in
-    let none = no_earlier (size_limit (size_of x.0.node) (depth_of x.0.node)) (condition_limit x.1.conditions) e in
-    let few = not_above 100000 (size_of x.0.node) (no_limit_nodes (nat_lt 100000 (size_of x.0.node)) (nat_lt 2000 (depth_of x.0.node)) none) in
+    let x = walk_value m.value (begun cs) in
+    let none = no_earlier (size_limit (root_size x.0.root) (root_depth x.0.root)) (condition_limit x.1.conditions) e in
+    let few = not_above 100000 (root_size x.0.root) (no_limit_nodes (nat_lt 100000 (root_size x.0.root)) (nat_lt 2000 (root_depth x.0.root)) none) in
     record {
       few_nodes = few;
-      not_deep = not_above 2000 (depth_of x.0.node) (no_limit_depth (nat_lt 100000 (size_of x.0.node)) (nat_lt 2000 (depth_of x.0.node)) none);
-      stamps = All-append (IsNumber 100000) (stamps_in x.0.node) [] (All-weaker (λ s. (1 ≤ s) × (s ≤ nodes m.plain)) (IsNumber 100000)
-          (λ s h. (h.0, omega (arith, h.1, few, walk_nodes m.plain (begun cs)))) (stamps_in x.0.node) (walk_stamps m.plain (begun cs) refl)) (All-nil (IsNumber 100000));
-      places = walk_whole m.plain (begun cs);
+      not_deep = not_above 2000 (root_depth x.0.root) (no_limit_depth (nat_lt 100000 (root_size x.0.root)) (nat_lt 2000 (root_depth x.0.root)) none);
+      stamps = All-weaker (λ s. (1 ≤ s) × (s ≤ value_nodes m.value)) (IsNumber 100000)
+          (λ s h. (h.0, omega (arith, h.1, few, root_nodes m.value (begun cs)))) (flat_map stamps_in (trees_of x.0.root)) (root_stamps m.value (begun cs) refl);
+      places = root_whole m.value (begun cs);
     }
 
 made_by_case : (b : Bool) (cs : List ActionId) (m : Meaning) → cond b (limit_of cs m) None ≡ None → All IsMade (cond b (entry cs m ∷ []) [])
@@ -239,10 +232,9 @@ ends_within all r h = sym h.limit
 
 -- ---- by an index
 
-meanings_count : (ds : List Definition) (ps : List Plain) → length ps ≡ length ds → length (meanings_of ds ps) ≡ length ds
-meanings_count [] ps h = refl
-meanings_count (d ∷ ds) [] h = absurd (omega arith)
-meanings_count (d ∷ ds) (p ∷ ps) h = omega (arith, meanings_count ds ps (omega arith))
+meanings_length : (alphabet : Alphabet) (known : List Plain) (ds : List Definition) → length (meanings_behind alphabet known ds) ≡ length ds
+meanings_length alphabet known [] = refl
+meanings_length alphabet known (d ∷ ds) = ap suc (meanings_length alphabet (known ++ value_plain alphabet known d.value ∷ []) ds)
 
 drop_all : {X : Type 0} (xs : List X) (n : ℕ) → length xs ≡ n → drop n xs ≡ []
 drop_all [] zero h = refl
@@ -250,44 +242,44 @@ drop_all [] (suc n) h = refl
 drop_all (x ∷ xs) zero h = absurd (omega arith)
 drop_all (x ∷ xs) (suc n) h = drop_all xs n (omega arith)
 
-pub at_end : (alphabet : Alphabet) (ds : List Definition) (r : Rewritten) → AreSoFar (drop (length ds) (meanings_of ds (plains alphabet ds))) (meanings_of ds (plains alphabet ds)) r
-    → AreSoFar [] (meanings_of ds (plains alphabet ds)) r
-at_end alphabet ds r h = subst (λ z. AreSoFar z (meanings_of ds (plains alphabet ds)) r) (drop_all (meanings_of ds (plains alphabet ds)) (length ds) (meanings_count ds (plains alphabet ds) (plains_count alphabet ds))) h
+pub at_end : (alphabet : Alphabet) (ds : List Definition) (r : Rewritten) → AreSoFar (drop (length ds) (meanings_in alphabet ds)) (meanings_in alphabet ds) r
+    → AreSoFar [] (meanings_in alphabet ds) r
+at_end alphabet ds r h = subst (λ z. AreSoFar z (meanings_in alphabet ds) r) (drop_all (meanings_in alphabet ds) (length ds) (meanings_length alphabet [] ds)) h
 
 next_here : (alphabet : Alphabet) (ds b : List Definition) (i : ℕ) (d : Definition) (r : Rewritten) → i < length ds → d ≡ get_or ds i d → b ≡ take i ds
-    → AreSoFar (drop i (meanings_of ds (plains alphabet ds))) (meanings_of ds (plains alphabet ds)) r
-    → AreSoFar (meaning d (value_plain alphabet (plains alphabet b) d.value) ∷ drop (i + 1) (meanings_of ds (plains alphabet ds))) (meanings_of ds (plains alphabet ds)) r
+    → AreSoFar (drop i (meanings_in alphabet ds)) (meanings_in alphabet ds) r
+    → AreSoFar (meaning d (value_behind alphabet b d.value) ∷ drop (i + 1) (meanings_in alphabet ds)) (meanings_in alphabet ds) r
 next_here alphabet ds b i d r lt e l h =
-    let all = meanings_of ds (plains alphabet ds) in
-    let here = next_meaning alphabet ds i d (slice_get_read ds (length ds) i d refl lt e) ∙ ap (λ z. meaning d (value_plain alphabet (plains alphabet z) d.value) ∷ drop (i + 1) all) (sym l) in
+    let all = meanings_in alphabet ds in
+    let here = next_meaning alphabet ds i d (slice_get_read ds (length ds) i d refl lt e) ∙ ap (λ z. meaning d (value_behind alphabet z d.value) ∷ drop (i + 1) all) (sym l) in
     subst (λ z. AreSoFar z all r) here h
 
 pub turn_next : (alphabet : Alphabet) (ds b : List Definition) (i : ℕ) (d : Definition) (r1 r2 : Rewritten) → i < length ds → d ≡ get_or ds i d → b ≡ take i ds
-    → AreSoFar (drop i (meanings_of ds (plains alphabet ds))) (meanings_of ds (plains alphabet ds)) r1
-    → IsNext (meaning d (value_plain alphabet (plains alphabet b) d.value)) r1 r2
-    → AreSoFar (drop (i + 1) (meanings_of ds (plains alphabet ds))) (meanings_of ds (plains alphabet ds)) r2
+    → AreSoFar (drop i (meanings_in alphabet ds)) (meanings_in alphabet ds) r1
+    → IsNext (meaning d (value_behind alphabet b d.value)) r1 r2
+    → AreSoFar (drop (i + 1) (meanings_in alphabet ds)) (meanings_in alphabet ds) r2
 turn_next alphabet ds b i d r1 r2 lt e l h k =
-    so_far_next (meaning d (value_plain alphabet (plains alphabet b) d.value)) (drop (i + 1) (meanings_of ds (plains alphabet ds))) (meanings_of ds (plains alphabet ds)) r1 r2 (next_here alphabet ds b i d r1 lt e l h) k
+    so_far_next (meaning d (value_behind alphabet b d.value)) (drop (i + 1) (meanings_in alphabet ds)) (meanings_in alphabet ds) r1 r2 (next_here alphabet ds b i d r1 lt e l h) k
 
 pub turn_refused : (alphabet : Alphabet) (ds b : List Definition) (i : ℕ) (d : Definition) (r : Rewritten) (f : RewriteFault) → i < length ds → d ≡ get_or ds i d → b ≡ take i ds
-    → AreSoFar (drop i (meanings_of ds (plains alphabet ds))) (meanings_of ds (plains alphabet ds)) r
-    → IsRefusal (limit_at (limit_by r.conditions (meaning d (value_plain alphabet (plains alphabet b) d.value))) d.place None) f
-    → IsRefusal (first_limit [] (meanings_of ds (plains alphabet ds))) f
+    → AreSoFar (drop i (meanings_in alphabet ds)) (meanings_in alphabet ds) r
+    → IsRefusal (limit_at (limit_by r.conditions (meaning d (value_behind alphabet b d.value))) d.place None) f
+    → IsRefusal (first_limit [] (meanings_in alphabet ds)) f
 turn_refused alphabet ds b i d r f lt e l h k =
-    so_far_refused (meaning d (value_plain alphabet (plains alphabet b) d.value)) (drop (i + 1) (meanings_of ds (plains alphabet ds))) (meanings_of ds (plains alphabet ds)) r f (next_here alphabet ds b i d r lt e l h) k
+    so_far_refused (meaning d (value_behind alphabet b d.value)) (drop (i + 1) (meanings_in alphabet ds)) (meanings_in alphabet ds) r f (next_here alphabet ds b i d r lt e l h) k
 
 pub turn_few : (rest all : List Meaning) (r : Rewritten) → AreSoFar rest all r → length r.conditions ≤ 8
 turn_few rest all r h = h.few
 
 -- ---- for all results of a call
 
-pub next_all : (m : Meaning) (r1 : Rewritten) (res : Result Rewritten RewriteFault) (s : Size) → is_entry m.sign ≡ true → s ≡ cut (measured m.plain) → size_limit s.nodes s.depth ≡ None
+pub next_all : (m : Meaning) (r1 : Rewritten) (res : Result Rewritten RewriteFault) (s : Size) → is_entry m.sign ≡ true → s ≡ cut (value_measured m.value) → size_limit s.nodes s.depth ≡ None
     → IfOk res (λ r. map made_of r.entries ≡ map made_of r1.entries ++ entry r1.conditions m ∷ [])
     → IfOk res (λ r. (r.conditions ≡ conditions_behind r1.conditions m) × (length r.conditions ≤ 8)) → IfOk res (λ r. IsNext m r1 r)
 next_all m r1 (Ok r) s e h k a b = next_entry m r1 r s e h k a b.0 b.1
 next_all m r1 (Err f) s e h k a b = tt
 
-pub refused_all : (m : Meaning) (r1 : Rewritten) (res : Result Rewritten RewriteFault) (s : Size) → is_entry m.sign ≡ true → s ≡ cut (measured m.plain) → size_limit s.nodes s.depth ≡ None
+pub refused_all : (m : Meaning) (r1 : Rewritten) (res : Result Rewritten RewriteFault) (s : Size) → is_entry m.sign ≡ true → s ≡ cut (value_measured m.value) → size_limit s.nodes s.depth ≡ None
     → IfErr res (λ f. IsRefusal (limit_at (condition_limit (conditions_behind r1.conditions m)) m.place None) f) → IfErr res (λ f. IsRefusal (limit_at (limit_by r1.conditions m) m.place None) f)
 refused_all m r1 (Ok r) s e h k a = tt
 refused_all m r1 (Err f) s e h k a = refused_small r1.conditions m s f e h k a

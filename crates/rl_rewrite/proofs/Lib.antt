@@ -14,3 +14,4 @@ pub mod SetLaws
 pub mod DraftLaws
 pub mod ConditionLaws
 pub mod DifferLaws
+pub mod PatternLaws

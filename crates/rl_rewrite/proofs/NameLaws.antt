@@ -1,6 +1,8 @@
 -- What the number of a definition stands for.
-use Rattle.std.proofs.Common.{◌≡◌, ℕ, zero, suc, ◌+◌, ◌<◌, ◌≤◌, List, [], ◌∷◌, ◌++◌, length, take, Option, Some, None, refl, ap, ◌∙◌, arith}
+use Rattle.std.proofs.Common.{◌≡◌, ℕ, zero, suc, ◌+◌, ◌<◌, ◌≤◌, List, [], ◌∷◌, ◌++◌, length, take, drop, Option, Some, None, refl, ap, sym, ◌∙◌, append_assoc, arith}
 use Rattle.std.specs.Prelude.{slice_get}
+use Rattle.std.proofs.Math.Seq.{take-append_seam}
+use Rattle.std.proofs.lemmas.List.{take-append-drop, length-take-le}
 use Rattle.rl_types.specs.declared.alphabet.Alphabet.{Alphabet}
 use Rattle.rl_draft.specs.declared.draft.Definition.{Definition}
 use Rattle.rl_rewrite.specs.Plain.{Plain, value_plain, plains_behind, plains, named}
@@ -90,3 +92,27 @@ pub plains_more : (alphabet : Alphabet) (ds : List Definition) (i : ℕ) (d : De
 plains_more alphabet ds i d e =
     let n : i + 1 ≡ suc i = omega arith in
     ap (λ z. plains alphabet (take z ds)) n ∙ ap (λ z. plains alphabet z) (take_next ds i d e) ∙ behind_append alphabet [] (take i ds) (d ∷ [])
+
+-- ---- the definitions before one
+
+append_none : {X : Type 0} (xs : List X) → xs ++ [] ≡ xs
+append_none [] = refl
+append_none (x ∷ xs) = ap (λ z. x ∷ z) (append_none xs)
+
+rest_behind : Alphabet → List Plain → List Definition → List Plain
+rest_behind alphabet known [] = []
+rest_behind alphabet known (d ∷ ds) = let v = value_plain alphabet known d.value in v ∷ rest_behind alphabet (known ++ v ∷ []) ds
+
+behind_rest : (alphabet : Alphabet) (known : List Plain) (ds : List Definition) → plains_behind alphabet known ds ≡ known ++ rest_behind alphabet known ds
+unfolding rest_behind
+behind_rest alphabet known [] = sym (append_none known)
+behind_rest alphabet known (d ∷ ds) =
+    let v = value_plain alphabet known d.value in
+    behind_rest alphabet (known ++ v ∷ []) ds ∙ append_assoc known (v ∷ []) (rest_behind alphabet (known ++ v ∷ []) ds)
+
+pub plains_front : (alphabet : Alphabet) (ds : List Definition) (i : ℕ) → i ≤ length ds → take i (plains alphabet ds) ≡ plains alphabet (take i ds)
+plains_front alphabet ds i h =
+    let front = plains alphabet (take i ds) in
+    let n : length front ≡ i = plains_count alphabet (take i ds) ∙ length-take-le i ds h in
+    ap (λ z. take i (plains alphabet z)) (sym (take-append-drop i ds)) ∙ ap (take i) (behind_append alphabet [] (take i ds) (drop i ds) ∙ behind_rest alphabet front (drop i ds))
+    ∙ ap (λ z. take z (front ++ rest_behind alphabet front (drop i ds))) (sym n) ∙ take-append_seam front (rest_behind alphabet front (drop i ds))

@@ -304,6 +304,15 @@ walk_fresh (p.Series a ps at) c =
     (layers_wider c.stamp c.stamp l.1.stamp x.1.stamp l.0 (omega arith) h.rises f.within) in
     record { rises = omega (arith, f.rises, h.rises, r.rises); few = omega (arith, f.few, h.few, r.few); within = r.within }
 
+-- a walk takes no more stamps than its nodes
+pub walk_rises : (q : Plain) (c : Counts) → (c.stamp ≤ (walk q c).1.stamp) × ((walk q c).1.stamp ≤ c.stamp + nodes q)
+walk_rises q c = let h = walk_fresh q c in (h.rises, h.few)
+
+-- the stamps of a walk are those that it takes
+pub walk_within : (q : Plain) (c : Counts) → All (λ s. (c.stamp < s) × (s ≤ (walk q c).1.stamp)) (stamps_in (walk q c).0.node)
+unfolding AreWithin
+walk_within q c = (walk_fresh q c).within
+
 -- the stamps of a walk from nothing are numbers from 1 up to its nodes
 pub walk_stamps : (q : Plain) (c : Counts) → c.stamp ≡ 0 → All (λ s. (1 ≤ s) × (s ≤ nodes q)) (stamps_in (walk q c).0.node)
 unfolding AreWithin

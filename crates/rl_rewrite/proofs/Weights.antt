@@ -39,7 +39,7 @@ links_weight (l ∷ ls) = weight_of_link l + links_weight ls
 
 abbrev pub value_weight : Value → ℕ
 value_weight (value.Expression e) = weight e
-value_weight (value.Scanner ps) = 0
+value_weight (value.Scanner ps at) = 0
 
 abbrev pub reach : List Definition → ℕ
 reach [] = 0

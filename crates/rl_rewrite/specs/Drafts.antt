@@ -1,5 +1,5 @@
--- The sets of characters that stand in a draft, and when they have the form that trees want.
-use Rattle.std.specs.Prelude.{◌<ℤ◌, ◌+ℤ◌, pos, List, [], ◌∷◌, ◌++◌, map, option_to_list, All}
+-- The sets of characters that stand in a draft, when they have the form that trees want, and when its scanners have patterns.
+use Rattle.std.specs.Prelude.{◌≢◌, ◌<ℤ◌, ◌+ℤ◌, pos, List, [], ◌∷◌, ◌++◌, map, option_to_list, All}
 use Rattle.std.specs.List.{flat_map}
 use Rattle.rl_types.specs.declared.alphabet.Alphabet.{Alphabet}
 use Rattle.rl_types.specs.KeyRange.{Range}
@@ -46,7 +46,7 @@ sets = fold-Expression Sets Sets level_sets link_sets
 
 abbrev pub expressions : Value → List Expression
 expressions (value.Expression e) = e ∷ []
-expressions (value.Scanner ps) = map (λ (p : Pattern). p.expression) ps
+expressions (value.Scanner ps at) = map (λ (p : Pattern). p.expression) ps
 
 abbrev pub all_expressions : Draft → List Expression
 all_expressions draft = flat_map (λ (d : Definition). expressions d.value) draft.definitions
@@ -65,3 +65,13 @@ IsSet alphabet ranges = AreApart ranges × All (IsInAlphabet alphabet) ranges
 -- each set of the draft ascends, without overlap, and lies in its alphabet
 abbrev pub HasSetsInForm : Draft → Type 0
 HasSetsInForm draft = All (λ e. All (IsSet draft.alphabet) (sets e)) (all_expressions draft)
+
+-- ---- patterns
+
+abbrev pub HasPattern : Value → Type 0
+HasPattern (value.Expression e) = Unit {0}
+HasPattern (value.Scanner ps at) = ps ≢ []
+
+-- each scanner of the draft has a pattern
+abbrev pub HasScannersInForm : Draft → Type 0
+HasScannersInForm draft = All (λ (d : Definition). HasPattern d.value) draft.definitions

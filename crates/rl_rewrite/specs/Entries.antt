@@ -8,11 +8,10 @@ use Rattle.rl_types.specs.declared.faults.Limit.{Limit}
 use Rattle.rl_types.specs.declared.faults.LimitKind.{LimitKind}
 use Rattle.rl_types.specs.declared.faults.LimitKind.TheVariants.{L4, L5, L7}
 use Rattle.rl_automata.specs.Scans.{Root}
-use Rattle.rl_automata.specs.Scans as root
 use Rattle.rl_model.specs.declared.spec.Entry as rust
 use Rattle.rl_model.specs.Specification.{root_of}
-use Rattle.rl_model.specs.Counts.{size_of, depth_of, root_size, root_depth, trees_of, stamps_in}
-use Rattle.rl_model.specs.WellFormed.{IsNumber}
+use Rattle.rl_model.specs.Counts.{root_size, root_depth, trees_of, stamps_in}
+use Rattle.rl_model.specs.WellFormed.{IsNumber, pattern_places}
 use Rattle.rl_draft.specs.declared.draft.Definition.{Definition}
 use Rattle.rl_draft.specs.declared.draft.Draft.{Draft}
 use Rattle.rl_draft.specs.declared.draft.Sign.{Sign}
@@ -20,36 +19,39 @@ use Rattle.rl_draft.specs.declared.draft.Sign.TheVariants as sign
 use Rattle.rl_rewrite.specs.declared.entries.Rewritten.{Rewritten}
 use Rattle.rl_rewrite.specs.declared.entries.RewriteFault.{RewriteFault}
 use Rattle.rl_rewrite.specs.declared.entries.RewriteFault.TheVariants as fault
-use Rattle.rl_rewrite.specs.Plain.{Plain, plains}
-use Rattle.rl_rewrite.specs.Walk.{walk, begun}
+use Rattle.rl_rewrite.specs.Plain.{Plain, PlainPattern, PlainValue, Expression, Scanner, value_of, value_plain}
+use Rattle.rl_rewrite.specs.Walk.{walk_value, begun}
 
--- an entry: its name, its expression, and the place of each node in post-order
+-- an entry: its name, its expression or patterns, the place of each node, pattern after pattern in post-order, and the place of
+-- each pattern
 pub record Made : Type 0 where
   pub name : List ℕ
   pub root : Root
   pub places : List Place
+  pub pattern_places : List Place
 
 abbrev pub made_of : rust.Entry → Made
-made_of e = record { name = e.name; root = root_of e.root; places = e.places }
+made_of e = record { name = e.name; root = root_of e.root; places = e.places; pattern_places = pattern_places e.root }
 
--- a definition, and what it stands for
+-- a definition, and what it gives its name to
 pub record Meaning : Type 0 where
   pub name : List ℕ
   pub place : Place
   pub sign : Sign
-  pub plain : Plain
+  pub value : PlainValue
 
-abbrev pub meaning : Definition → Plain → Meaning
-meaning d p = record { name = d.name; place = d.place; sign = d.sign; plain = p }
+abbrev pub meaning : Definition → PlainValue → Meaning
+meaning d v = record { name = d.name; place = d.place; sign = d.sign; value = v }
 
-abbrev pub meanings_of : List Definition → List Plain → List Meaning
-meanings_of [] ps = []
-meanings_of (d ∷ ds) [] = []
-meanings_of (d ∷ ds) (p ∷ ps) = meaning d p ∷ meanings_of ds ps
+-- where it is known what earlier names stand for
+abbrev pub meanings_behind : Alphabet → List Plain → List Definition → List Meaning
+meanings_behind alphabet known [] = []
+meanings_behind alphabet known (d ∷ ds) =
+    meaning d (value_of alphabet known d.value) ∷ meanings_behind alphabet (known ++ value_plain alphabet known d.value ∷ []) ds
 
--- what these definitions of a machine with an alphabet stand for
+-- what these definitions of a machine with an alphabet give their names to
 abbrev pub meanings_in : Alphabet → List Definition → List Meaning
-meanings_in alphabet definitions = meanings_of definitions (plains alphabet definitions)
+meanings_in alphabet definitions = meanings_behind alphabet [] definitions
 
 abbrev pub meanings : Draft → List Meaning
 meanings draft = meanings_in draft.alphabet draft.definitions
@@ -60,12 +62,18 @@ is_entry sign.Instantiation = true
 
 -- ---- an entry behind those that have these conditions
 
+abbrev pub places_of_patterns : PlainValue → List Place
+places_of_patterns (Expression p) = []
+places_of_patterns (Scanner ps at) = map (λ (p : PlainPattern). p.place) ps
+
 abbrev pub entry : List ActionId → Meaning → Made
-entry conditions m = let x = walk m.plain (begun conditions) in record { name = m.name; root = root.Plain x.0.node; places = x.0.places }
+entry conditions m =
+    let x = walk_value m.value (begun conditions) in
+    record { name = m.name; root = x.0.root; places = x.0.places; pattern_places = places_of_patterns m.value }
 
 -- the conditions of both
 abbrev pub conditions_behind : List ActionId → Meaning → List ActionId
-conditions_behind conditions m = (walk m.plain (begun conditions)).1.conditions
+conditions_behind conditions m = (walk_value m.value (begun conditions)).1.conditions
 
 abbrev pub size_limit : ℕ → ℕ → Option LimitKind
 size_limit nodes depth = cond (nat_lt 100000 nodes) (Some L4) (cond (nat_lt 2000 depth) (Some L5) None)
@@ -80,8 +88,8 @@ earlier_limit (Some kind) later = Some kind
 -- the first limit that it passes
 abbrev pub limit_of : List ActionId → Meaning → Option LimitKind
 limit_of conditions m =
-    let x = walk m.plain (begun conditions) in
-    earlier_limit (size_limit (size_of x.0.node) (depth_of x.0.node)) (condition_limit x.1.conditions)
+    let x = walk_value m.value (begun conditions) in
+    earlier_limit (size_limit (root_size x.0.root) (root_depth x.0.root)) (condition_limit x.1.conditions)
 
 -- ---- a definition makes one where it is an instantiation
 

@@ -11,9 +11,9 @@ use Rattle.rl_draft.specs.declared.expression.NegationSign.{NegationSign}
 use Rattle.rl_draft.specs.declared.expression.Item.{Item}
 use Rattle.rl_draft.specs.declared.draft.Definition.{Definition}
 use Rattle.rl_rewrite.specs.declared.sizes.Size.{Size}
-use Rattle.rl_rewrite.specs.Plain.{Plain, Operand, plains}
+use Rattle.rl_rewrite.specs.Plain.{Plain, Operand, PlainPattern, PlainValue, plains}
 use Rattle.rl_rewrite.specs.Walk.{has_copies}
-use Rattle.rl_rewrite.specs.Sizes.{nodes, depth, count_nodes, count_depth}
+use Rattle.rl_rewrite.specs.Sizes.{nodes, depth, count_nodes, count_depth, value_nodes, value_depth}
 
 abbrev pub measured : Plain → Size
 measured p = record { nodes = nodes p; depth = depth p }
@@ -87,3 +87,16 @@ cut_sizes ps = map (λ p. cut (measured p)) ps
 -- these are the sizes of what the definitions stand for
 abbrev pub AreSizes : Alphabet → List Definition → List Size → Type 0
 AreSizes alphabet ds sizes = sizes ≡ cut_sizes (plains alphabet ds)
+
+-- ---- entries
+
+abbrev pub value_measured : PlainValue → Size
+value_measured v = record { nodes = value_nodes v; depth = value_depth v }
+
+-- a pattern beside those before it
+abbrev pub beside : Size → Size → Size
+beside s q = record { nodes = s.nodes + q.nodes; depth = max s.depth q.depth }
+
+abbrev pub all_beside : Size → List PlainPattern → Size
+all_beside s [] = s
+all_beside s (q ∷ qs) = all_beside (cut (beside s (cut (measured q.plain)))) qs

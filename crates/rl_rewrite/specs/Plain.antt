@@ -1,10 +1,11 @@
 -- Expressions with their names followed, in which the operators are reduced to few (the guide's sections 2.3 and 2.5).
 use Rattle.std.specs.Prelude.{ℕ, map, cond, List, [], ◌∷◌, ◌++◌, slice_get, Option, Some, None}
 use Rattle.rl_types.specs.declared.alphabet.Alphabet.{Alphabet}
+use Rattle.rl_types.specs.declared.numbers.ActionId.{ActionId}
 use Rattle.rl_types.specs.declared.numbers.Place.{Place}
 use Rattle.rl_types.specs.Alphabet.{least_key, greatest_key}
 use Rattle.rl_types.specs.KeyRange.{Range}
-use Rattle.rl_draft.specs.declared.expression.Expression.{Expression}
+use Rattle.rl_draft.specs.declared.expression.Expression.{Expression as DraftExpression}
 use Rattle.rl_draft.specs.declared.expression.Expression.TheOpen.{Expression-F, Link-F}
 use Rattle.rl_draft.specs.declared.expression.Expression.TheOpen as level
 use Rattle.rl_draft.specs.declared.expression.Expression.TheFolds.{fold-Expression, fold-Link}
@@ -21,6 +22,7 @@ use Rattle.rl_draft.specs.declared.expression.Negation.TheVariants as negation
 use Rattle.rl_draft.specs.declared.expression.NegationSign.{NegationSign}
 use Rattle.rl_draft.specs.declared.expression.Put.{Put}
 use Rattle.rl_draft.specs.declared.draft.Definition.{Definition}
+use Rattle.rl_draft.specs.declared.draft.Pattern.{Pattern}
 use Rattle.rl_draft.specs.declared.draft.Value.{Value}
 use Rattle.rl_draft.specs.declared.draft.Value.TheVariants as value
 
@@ -145,7 +147,7 @@ abbrev pub link_step : Link-F Plain Operand → Operand
 link_step l = record { join = l.join; plain = l.operand }
 
 -- an expression behind the definitions whose expressions are known
-abbrev pub plain : Alphabet → List Plain → Expression → Plain
+abbrev pub plain : Alphabet → List Plain → DraftExpression → Plain
 plain alphabet known = fold-Expression Plain Operand (expression_step alphabet known) link_step
 
 abbrev pub operand : Alphabet → List Plain → Link → Operand
@@ -153,23 +155,44 @@ operand alphabet known = fold-Link Plain Operand (expression_step alphabet known
 
 -- ---- definitions
 
--- a scanner has no tree here: it stands for no word, as the number of no definition does
+-- a pattern without names: its expression, the action of its token, if it has one, and its place
+pub record PlainPattern : Type 0 where
+  pub plain : Plain
+  pub token : Option ActionId
+  pub place : Place
+
+-- what a definition gives its name to: an expression, or the patterns of a scanner, with the place of its `|*`
+pub data PlainValue : Type 0 where
+  Expression : Plain → PlainValue
+  Scanner : List PlainPattern → Place → PlainValue
+
+abbrev pub pattern_plain : Alphabet → List Plain → Pattern → PlainPattern
+pattern_plain alphabet known p = record { plain = plain alphabet known p.expression; token = p.token; place = p.place }
+
+abbrev pub value_of : Alphabet → List Plain → Value → PlainValue
+value_of alphabet known (value.Expression e) = Expression (plain alphabet known e)
+value_of alphabet known (value.Scanner ps at) = Scanner (map (pattern_plain alphabet known) ps) at
+
+-- as a name, a scanner stands for no word, as the number of no definition does
+abbrev pub as_name : PlainValue → Plain
+as_name (Expression p) = p
+as_name (Scanner ps at) = named None
+
 abbrev pub value_plain : Alphabet → List Plain → Value → Plain
-value_plain alphabet known (value.Expression e) = plain alphabet known e
-value_plain alphabet known (value.Scanner ps) = named None
+value_plain alphabet known v = as_name (value_of alphabet known v)
 
 abbrev pub plains_behind : Alphabet → List Plain → List Definition → List Plain
 plains_behind alphabet known [] = known
 plains_behind alphabet known (d ∷ ds) = plains_behind alphabet (known ++ value_plain alphabet known d.value ∷ []) ds
 
--- what each definition stands for
+-- what each definition stands for as a name
 abbrev pub plains : Alphabet → List Definition → List Plain
 plains alphabet ds = plains_behind alphabet [] ds
 
 -- ---- behind definitions
 
 -- what an expression stands for where these definitions stand before it
-abbrev pub followed : Alphabet → List Definition → Expression → Plain
+abbrev pub followed : Alphabet → List Definition → DraftExpression → Plain
 followed alphabet earlier e = plain alphabet (plains alphabet earlier) e
 
 -- an operand, with its join
@@ -179,9 +202,17 @@ operand_followed alphabet earlier l = operand alphabet (plains alphabet earlier)
 abbrev pub operands_followed : Alphabet → List Definition → List Link → List Operand
 operands_followed alphabet earlier ls = map (operand_followed alphabet earlier) ls
 
--- what a definition gives its name to
+-- what a definition stands for as a name
 abbrev pub value_followed : Alphabet → List Definition → Value → Plain
 value_followed alphabet earlier v = value_plain alphabet (plains alphabet earlier) v
+
+-- what a definition gives its name to
+abbrev pub value_behind : Alphabet → List Definition → Value → PlainValue
+value_behind alphabet earlier v = value_of alphabet (plains alphabet earlier) v
+
+-- the patterns of a scanner
+abbrev pub patterns_followed : Alphabet → List Definition → List Pattern → List PlainPattern
+patterns_followed alphabet earlier ps = map (pattern_plain alphabet (plains alphabet earlier)) ps
 
 -- the number of a definition
 abbrev pub name_followed : Alphabet → List Definition → ℕ → Plain

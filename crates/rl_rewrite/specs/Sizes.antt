@@ -1,7 +1,7 @@
 -- Nodes and depth of a tree before it is made.
-use Rattle.std.specs.Prelude.{ℕ, zero, suc, ◌+◌, ◌-◌, ◌*◌, max, cond, length, Option, Some, None}
+use Rattle.std.specs.Prelude.{ℕ, zero, suc, ◌+◌, ◌-◌, ◌*◌, max, cond, List, [], ◌∷◌, length, Option, Some, None}
 use Rattle.rl_rewrite.specs.Plain as p
-use Rattle.rl_rewrite.specs.Plain.{Plain}
+use Rattle.rl_rewrite.specs.Plain.{Plain, PlainPattern, PlainValue}
 use Rattle.rl_rewrite.specs.Walk.{has_copies}
 
 -- of so many copies of a tree, and then so many of another, in a row
@@ -42,3 +42,24 @@ depth (p.Guarded g a b at) = max (depth a) (depth b) + 2
 depth (p.Longest a at) = depth a + 3
 depth (p.Count a least most at) = cond (has_copies least most) (count_depth least most (depth a)) 1
 depth (p.Series a ps at) = depth a + length ps
+
+-- ---- entries
+
+-- of all patterns
+abbrev pub pattern_nodes : List PlainPattern → ℕ
+pattern_nodes [] = 0
+pattern_nodes (q ∷ qs) = nodes q.plain + pattern_nodes qs
+
+-- of the deepest pattern
+abbrev pub pattern_depth : List PlainPattern → ℕ
+pattern_depth [] = 0
+pattern_depth (q ∷ qs) = max (depth q.plain) (pattern_depth qs)
+
+-- a scanner is one node beside those of its patterns
+abbrev pub value_nodes : PlainValue → ℕ
+value_nodes (p.Expression e) = nodes e
+value_nodes (p.Scanner qs at) = pattern_nodes qs + 1
+
+abbrev pub value_depth : PlainValue → ℕ
+value_depth (p.Expression e) = depth e
+value_depth (p.Scanner qs at) = pattern_depth qs

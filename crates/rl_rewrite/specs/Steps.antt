@@ -1,5 +1,5 @@
 -- What the code's values stand for, and what its steps compute.
-use Rattle.std.specs.Prelude.{◌≡◌, ℕ, ◌+◌, ◌*◌, ◌-◌, ◌<◌, ◌≤◌, ◌^◌, Bool, true, cond, List, [], ◌∷◌, length, Option, Some, None, is_none}
+use Rattle.std.specs.Prelude.{◌≡◌, ℕ, ◌+◌, ◌*◌, ◌-◌, ◌<◌, ◌≤◌, ◌^◌, Bool, true, cond, List, [], ◌∷◌, ◌++◌, map, length, Option, Some, None, is_none}
 use Rattle.rl_types.specs.declared.alphabet.Alphabet.{Alphabet}
 use Rattle.rl_types.specs.declared.numbers.Place.{Place}
 use Rattle.rl_types.specs.KeyRange.{Range}
@@ -8,6 +8,9 @@ use Rattle.rl_automata.specs.Nodes as n
 use Rattle.rl_automata.specs.Nodes.{node_of}
 use Rattle.rl_automata.specs.declared.tree.Label.{Label}
 use Rattle.rl_automata.specs.declared.tree.Label.TheVariants.{Prior}
+use Rattle.rl_model.specs.declared.spec.Pattern.{Pattern as Made_pattern}
+use Rattle.rl_model.specs.Specification.{pattern_of, root_of}
+use Rattle.rl_draft.specs.declared.draft.Pattern.{Pattern}
 use Rattle.rl_draft.specs.declared.expression.Transitions.{Transitions}
 use Rattle.rl_draft.specs.declared.expression.Transitions.TheVariants as t
 use Rattle.rl_draft.specs.declared.expression.Item.{Item}
@@ -21,12 +24,14 @@ use Rattle.rl_rewrite.specs.declared.joins.Opening.TheVariants as opening
 use Rattle.rl_rewrite.specs.declared.joins.Guard as rust_guard
 use Rattle.rl_rewrite.specs.declared.joins.Guard.TheVariants as guard
 use Rattle.rl_rewrite.specs.declared.layers.Layer.TheVariants as layer
+use Rattle.rl_rewrite.specs.declared.patterns.Patterns as rust_patterns
+use Rattle.rl_rewrite.specs.declared.patterns.Rooted as rust_root
 use Rattle.rl_rewrite.specs.declared.placed.Placed as rust
 use Rattle.rl_rewrite.specs.declared.placed.Pairing as rust_pairing
 use Rattle.rl_rewrite.specs.declared.placed.Pairing.TheVariants as pairing
 use Rattle.rl_rewrite.specs.Plain as p
-use Rattle.rl_rewrite.specs.Plain.{Plain, Pairing, Guard, Operand, every, no_place}
-use Rattle.rl_rewrite.specs.Walk.{Walk, Placed, walk, has_copies, counted, longest, paired, row, row_behind, single, star, guarded_left, right_value, layered, stamped, new_name, with_new_name}
+use Rattle.rl_rewrite.specs.Plain.{Plain, Pairing, Guard, Operand, PlainPattern, every, no_place}
+use Rattle.rl_rewrite.specs.Walk.{Walk, Placed, PlacedPatterns, PlacedRoot, walk, pattern_made, has_copies, counted, longest, paired, row, row_behind, single, star, guarded_left, right_value, layered, stamped, new_name, with_new_name}
 use Rattle.rl_rewrite.specs.Sizes.{nodes}
 
 abbrev pub placed_of : rust.Placed → Placed
@@ -200,3 +205,29 @@ item_made i at c = cond i.starred (star (character_made i.ranges at) (c.stamp + 
 abbrev pub items_behind : Place → List Item → Placed → Walk Placed
 items_behind at [] x c = (x, c)
 items_behind at (i ∷ is) x c = let y = item_made i at c in items_behind at is (paired p.Then x y.0 at) y.1
+
+-- ---- patterns
+
+abbrev pub patterns_of : rust_patterns.Patterns → PlacedPatterns
+patterns_of x = record { patterns = map pattern_of x.patterns; places = x.places }
+
+abbrev pub root_placed : rust_root.Rooted → PlacedRoot
+root_placed x = record { root = root_of x.root; places = x.places }
+
+-- the places of the patterns that are made
+abbrev pub made_places : rust_patterns.Patterns → List Place
+made_places x = map (λ (p : Made_pattern). p.place) x.patterns
+
+abbrev pub pattern_places : List Pattern → List Place
+pattern_places ps = map (λ (p : Pattern). p.place) ps
+
+-- a pattern behind those before it
+abbrev pub pattern_added : PlacedPatterns → PlainPattern → Placed → PlacedPatterns
+pattern_added x q y = record { patterns = x.patterns ++ pattern_made q y.node ∷ []; places = x.places ++ y.places }
+
+abbrev pub pattern_on : PlacedPatterns → PlainPattern → Walk PlacedPatterns
+pattern_on x q c = let y = walk q.plain c in (pattern_added x q y.0, y.1)
+
+abbrev pub patterns_on : PlacedPatterns → List PlainPattern → Walk PlacedPatterns
+patterns_on x [] c = (x, c)
+patterns_on x (q ∷ qs) c = let y = pattern_on x q c in patterns_on y.0 qs y.1

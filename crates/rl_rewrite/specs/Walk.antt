@@ -2,6 +2,7 @@
 -- conditions (the guide's sections 2.5 and 3; the order of the walk is this profile's).
 use Rattle.std.specs.Prelude.{ℕ, zero, ◌+◌, ◌-◌, ℤ, pos, Bool, true, false, ◌&&◌, cond, nat_eq, nat_lt, List, [], ◌∷◌, ◌++◌, length, replicate, Option, Some, None}
 use Rattle.std.specs.List.{position_or_len}
+use Rattle.std.specs.Option.{option_map}
 use Rattle.rl_types.specs.declared.numbers.Place.{Place}
 use Rattle.rl_types.specs.declared.numbers.ActionId.{ActionId}
 use Rattle.rl_automata.specs.declared.tree.Label.TheVariants.{Action, Prior}
@@ -9,6 +10,8 @@ use Rattle.rl_automata.specs.declared.tree.Class.{Class}
 use Rattle.rl_automata.specs.declared.tree.Class.TheVariants as class
 use Rattle.rl_automata.specs.Nodes as n
 use Rattle.rl_automata.specs.Nodes.{Node}
+use Rattle.rl_automata.specs.Scans as root
+use Rattle.rl_automata.specs.Scans.{Root, Pattern}
 use Rattle.rl_draft.specs.declared.expression.Transitions.{Transitions}
 use Rattle.rl_draft.specs.declared.expression.Transitions.TheVariants as t
 use Rattle.rl_draft.specs.declared.expression.Put.{Put}
@@ -17,7 +20,7 @@ use Rattle.rl_rewrite.specs.declared.counts.Counts.{Counts}
 use Rattle.rl_rewrite.specs.declared.layers.Layer.{Layer}
 use Rattle.rl_rewrite.specs.declared.layers.Layer.TheVariants as layer
 use Rattle.rl_rewrite.specs.Plain as p
-use Rattle.rl_rewrite.specs.Plain.{Plain, Pairing, Guard}
+use Rattle.rl_rewrite.specs.Plain.{Plain, Pairing, Guard, PlainPattern, PlainValue}
 
 -- a tree with the place of each node, in post-order
 pub record Placed : Type 0 where
@@ -216,6 +219,36 @@ walk (p.Guarded g a b at) c =
 walk (p.Longest a at) c = let x = walk a c in longest at x.0 x.1
 walk (p.Count a least most at) c = cond (has_copies least most) (let x = walk a c in counted least most at x.0 x.1) (single n.Null at, c)
 walk (p.Series a ps at) c = let l = first_layers ps c in let x = walk a l.1 in around ps l.0 at x.0 x.1
+
+-- ---- entries
+
+-- the patterns of a scanner, with the place of each node of theirs: pattern after pattern, each in post-order
+pub record PlacedPatterns : Type 0 where
+  pub patterns : List Pattern
+  pub places : List Place
+
+abbrev pub no_patterns : PlacedPatterns
+no_patterns = record { patterns = []; places = [] }
+
+abbrev pub pattern_made : PlainPattern → Node → Pattern
+pattern_made p node = record { tree = node; token = option_map (λ (a : ActionId). a.0) p.token }
+
+abbrev pub with_pattern : PlainPattern → Placed → PlacedPatterns → PlacedPatterns
+with_pattern p x later = record { patterns = pattern_made p x.node ∷ later.patterns; places = x.places ++ later.places }
+
+-- one walk goes through all patterns, in text order
+abbrev pub walk_patterns : List PlainPattern → Walk PlacedPatterns
+walk_patterns [] c = (no_patterns, c)
+walk_patterns (p ∷ ps) c = let x = walk p.plain c in let y = walk_patterns ps x.1 in (with_pattern p x.0 y.0, y.1)
+
+-- the expression of an entry, or its patterns, with the place of each node; a scanner is a node behind those of its patterns
+pub record PlacedRoot : Type 0 where
+  pub root : Root
+  pub places : List Place
+
+abbrev pub walk_value : PlainValue → Walk PlacedRoot
+walk_value (p.Expression e) c = let x = walk e c in (record { root = root.Plain x.0.node; places = x.0.places }, x.1)
+walk_value (p.Scanner ps at) c = let x = walk_patterns ps c in (record { root = root.Scanner x.0.patterns; places = x.0.places ++ at ∷ [] }, x.1)
 
 -- an entry begins with no stamp and no name; the conditions go on from entry to entry
 abbrev pub begun : List ActionId → Counts

@@ -1,30 +1,28 @@
 // The entries of a machine.
 ghost use Rattle.std.specs.Prelude.{◌≡◌, ◌≤◌, ◌<◌, ◌+◌, ◌++◌, ◌∷◌, [], length, map, drop, IfOk, IfErr, Some, None, true, All};
-ghost use Rattle.rl_automata.specs.Nodes.{node_of};
-ghost use Rattle.rl_automata.specs.Scans.{Plain};
 ghost use Rattle.rl_types.specs.declared.numbers.ActionId.{ActionId};
 ghost use Rattle.std.specs.List.{flat_map};
 ghost use Rattle.rl_automata.specs.Refused.{AreDifferent, conditions_in, sets_in};
 ghost use Rattle.rl_model.specs.Counts.{trees_of};
 ghost use Rattle.rl_model.specs.Specification.{root_of};
-ghost use Rattle.rl_model.specs.WellFormed.{IsNumber};
+ghost use Rattle.rl_model.specs.WellFormed.{IsNumber, HasPatterns, pattern_places};
 ghost use Rattle.rl_model.specs.declared.spec.Entry as entry_type;
-ghost use Rattle.rl_rewrite.specs.Drafts.{IsSet, HasSetsInForm};
-ghost use Rattle.rl_rewrite.specs.Plain.{value_followed};
-ghost use Rattle.rl_rewrite.specs.Sizes.{nodes};
+ghost use Rattle.rl_rewrite.specs.Drafts.{IsSet, HasSetsInForm, HasScannersInForm};
+ghost use Rattle.rl_rewrite.specs.Plain.{value_behind};
+ghost use Rattle.rl_rewrite.specs.Sizes.{value_nodes};
 ghost use Rattle.rl_rewrite.specs.Walk as w;
 ghost use Rattle.rl_rewrite.specs.Walk.{begun};
-ghost use Rattle.rl_rewrite.specs.Steps.{placed_of};
-ghost use Rattle.rl_rewrite.specs.Measures.{AreSizes, cut, measured};
+ghost use Rattle.rl_rewrite.specs.Steps.{root_placed};
+ghost use Rattle.rl_rewrite.specs.Measures.{AreSizes, cut, value_measured};
 ghost use Rattle.rl_rewrite.specs.Entries as spec;
-ghost use Rattle.rl_rewrite.specs.Entries.{made_of, meaning, meanings, meanings_in, entry, entries, all_conditions, first_limit, limit_at, limit_by, limit_of, earlier_limit, condition_limit, conditions_behind, IsMade, AreSoFar, IsNext, IsRefusal, Refuses};
+ghost use Rattle.rl_rewrite.specs.Entries.{made_of, meaning, meanings, meanings_in, entry, entries, all_conditions, first_limit, limit_at, limit_by, limit_of, earlier_limit, condition_limit, conditions_behind, places_of_patterns, IsMade, AreSoFar, IsNext, IsRefusal, Refuses};
 
 use crate::counts::Counts;
-use crate::placed::Placed;
-use crate::sizes::{Size, table};
-use crate::walk::{before, walk_value};
+use crate::patterns::{Rooted, walk_root};
+use crate::sizes::{Size, entry_size, sizes_before, table};
+use crate::walk::before;
 use rl_draft::{Definition, Draft, Sign, Value};
-use rl_model::{Entry, Root};
+use rl_model::Entry;
 use rl_types::{ActionId, Alphabet, Limit, LimitKind, List, Name};
 use std::alloc::{AllocError, Global};
 
@@ -75,10 +73,10 @@ fn size_limit(size: Size) -> Option<LimitKind>
     }
 }
 
-/// A tree, and all conditions up to it.
+/// The root of an entry, and all conditions up to it.
 #[derive(Drop)]
 struct Walked {
-    placed: Placed,
+    root: Rooted,
     conditions: List<ActionId>,
 }
 
@@ -90,22 +88,24 @@ fn walk_entry(
     value: &Value,
     conditions: List<ActionId>,
 ) -> Result<Walked, AllocError>
-    requires room { nodes (value_followed alphabet earlier.now value.now) ≤ 100000 }
+    requires room { value_nodes (value_behind alphabet earlier.now value.now) ≤ 100000 }
     requires few { length conditions ≤ 8 }
-    ensures { IfOk result (λ r. (placed_of r.placed ≡ (w.walk (value_followed alphabet earlier.now value.now) (begun conditions)).0) × (r.conditions ≡ (w.walk (value_followed alphabet earlier.now value.now) (begun conditions)).1.conditions)) }
+    ensures root { IfOk result (λ r. root_placed r.root ≡ (w.walk_value (value_behind alphabet earlier.now value.now) (begun conditions)).0) }
+    ensures places { IfOk result (λ r. pattern_places r.root.root ≡ places_of_patterns (value_behind alphabet earlier.now value.now)) }
+    ensures conditions { IfOk result (λ r. r.conditions ≡ (w.walk_value (value_behind alphabet earlier.now value.now) (begun conditions)).1.conditions) }
 {
     let mut counts = Counts {
         stamp: 0,
         names: List::new(alloc),
         conditions,
     };
-    let placed = walk_value(alloc, alphabet, earlier, value, &mut counts)?;
+    let root = walk_root(alloc, alphabet, earlier, value, &mut counts)?;
     let Counts {
         stamp: _,
         names: _,
         conditions,
     } = counts;
-    Ok(Walked { placed, conditions })
+    Ok(Walked { root, conditions })
 }
 
 // An entry more.
@@ -113,18 +113,14 @@ fn pushed(
     alloc: Global,
     entries: List<Entry>,
     name: &Name,
-    placed: Placed,
+    root: Rooted,
 ) -> Result<List<Entry>, AllocError>
-    ensures { IfOk result (λ r. map made_of r ≡ map made_of entries ++ record { name = name.now; root = Plain (node_of placed.tree); places = placed.places } ∷ []) }
+    ensures { IfOk result (λ r. map made_of r ≡ map made_of entries ++ record { name = name.now; root = (root_placed root).root; places = (root_placed root).places; pattern_places = pattern_places root.root } ∷ []) }
 {
     let mut entries = entries;
     let name = copied(alloc, name)?;
-    let Placed { tree, places } = placed;
-    entries.push(Entry {
-        name,
-        root: Root::Plain(tree),
-        places,
-    })?;
+    let Rooted { root, places } = root;
+    entries.push(Entry { name, root, places })?;
     Ok(entries)
 }
 
@@ -136,11 +132,11 @@ fn small_entry(
     d: &Definition,
     made: Rewritten,
 ) -> Result<Rewritten, RewriteFault>
-    requires room { nodes (value_followed alphabet earlier.now d.now.value) ≤ 100000 }
+    requires room { value_nodes (value_behind alphabet earlier.now d.now.value) ≤ 100000 }
     requires few { length made.conditions ≤ 8 }
-    ensures made { IfOk result (λ r. map made_of r.entries ≡ map made_of made.entries ++ entry made.conditions (meaning d.now (value_followed alphabet earlier.now d.now.value)) ∷ []) }
-    ensures conditions { IfOk result (λ r. (r.conditions ≡ conditions_behind made.conditions (meaning d.now (value_followed alphabet earlier.now d.now.value))) × (length r.conditions ≤ 8)) }
-    ensures refused { IfErr result (λ f. IsRefusal (limit_at (condition_limit (conditions_behind made.conditions (meaning d.now (value_followed alphabet earlier.now d.now.value)))) d.now.place None) f) }
+    ensures made { IfOk result (λ r. map made_of r.entries ≡ map made_of made.entries ++ entry made.conditions (meaning d.now (value_behind alphabet earlier.now d.now.value)) ∷ []) }
+    ensures conditions { IfOk result (λ r. (r.conditions ≡ conditions_behind made.conditions (meaning d.now (value_behind alphabet earlier.now d.now.value))) × (length r.conditions ≤ 8)) }
+    ensures refused { IfErr result (λ f. IsRefusal (limit_at (condition_limit (conditions_behind made.conditions (meaning d.now (value_behind alphabet earlier.now d.now.value)))) d.now.place None) f) }
 {
     let Rewritten {
         entries,
@@ -149,14 +145,14 @@ fn small_entry(
     let Ok(x) = walk_entry(alloc, alphabet, earlier, &d.value, conditions) else {
         return Err(RewriteFault::Memory);
     };
-    let Walked { placed, conditions } = x;
+    let Walked { root, conditions } = x;
     if conditions.len() > 8 {
         return Err(RewriteFault::Limit(Limit {
             kind: LimitKind::L7,
             place: d.place,
         }));
     }
-    let Ok(entries) = pushed(alloc, entries, &d.name, placed) else {
+    let Ok(entries) = pushed(alloc, entries, &d.name, root) else {
         return Err(RewriteFault::Memory);
     };
     Ok(Rewritten {
@@ -172,15 +168,16 @@ fn next_entry(
     alphabet: Alphabet,
     earlier: &[Definition],
     d: &Definition,
-    size: Size,
+    sizes: &[Size],
     made: Rewritten,
 ) -> Result<Rewritten, RewriteFault>
     requires entry { spec.is_entry d.now.sign ≡ true }
-    requires size { size ≡ cut (measured (value_followed alphabet earlier.now d.now.value)) }
+    requires sizes { AreSizes alphabet earlier.now sizes.now }
     requires few { length made.conditions ≤ 8 }
-    ensures made { IfOk result (λ r. IsNext (meaning d.now (value_followed alphabet earlier.now d.now.value)) made r) }
-    ensures refused { IfErr result (λ f. IsRefusal (limit_at (limit_by made.conditions (meaning d.now (value_followed alphabet earlier.now d.now.value))) d.now.place None) f) }
+    ensures made { IfOk result (λ r. IsNext (meaning d.now (value_behind alphabet earlier.now d.now.value)) made r) }
+    ensures refused { IfErr result (λ f. IsRefusal (limit_at (limit_by made.conditions (meaning d.now (value_behind alphabet earlier.now d.now.value))) d.now.place None) f) }
 {
+    let size = entry_size(alphabet, earlier, sizes, &d.value);
     match size_limit(size) {
         Some(kind) => Err(RewriteFault::Limit(Limit {
             kind,
@@ -197,16 +194,16 @@ fn step(
     alphabet: Alphabet,
     earlier: &[Definition],
     d: &Definition,
-    size: Size,
+    sizes: &[Size],
     made: Rewritten,
 ) -> Result<Rewritten, RewriteFault>
-    requires size { size ≡ cut (measured (value_followed alphabet earlier.now d.now.value)) }
+    requires sizes { AreSizes alphabet earlier.now sizes.now }
     requires few { length made.conditions ≤ 8 }
-    ensures made { IfOk result (λ r. IsNext (meaning d.now (value_followed alphabet earlier.now d.now.value)) made r) }
-    ensures refused { IfErr result (λ f. IsRefusal (limit_at (limit_by made.conditions (meaning d.now (value_followed alphabet earlier.now d.now.value))) d.now.place None) f) }
+    ensures made { IfOk result (λ r. IsNext (meaning d.now (value_behind alphabet earlier.now d.now.value)) made r) }
+    ensures refused { IfErr result (λ f. IsRefusal (limit_at (limit_by made.conditions (meaning d.now (value_behind alphabet earlier.now d.now.value))) d.now.place None) f) }
 {
     if is_entry(d.sign) {
-        let r = next_entry(alloc, alphabet, earlier, d, size, made)?;
+        let r = next_entry(alloc, alphabet, earlier, d, sizes, made)?;
         Ok(r)
     } else {
         Ok(made)
@@ -230,9 +227,9 @@ fn turn(
     ensures refused { IfErr result (λ f. IsRefusal (first_limit [] (meanings_in alphabet definitions.now)) f) }
 {
     let d = &definitions[i];
-    let size = sizes[i];
     let earlier = before(definitions, i);
-    let r = step(alloc, alphabet, earlier, d, size, made)?;
+    let known = sizes_before(sizes, i);
+    let r = step(alloc, alphabet, earlier, d, known, made)?;
     Ok(r)
 }
 
@@ -291,9 +288,14 @@ fn all_entries(
 /// The entries of a machine, with all names followed and all operators rewritten (the guide's sections 2.3, 2.5, 3.1, 3.2
 /// and 6.5; the order of the walk that gives the stamps is this profile's).
 ///
-/// Any draft is taken. The number of no earlier definition stands for no word, at the place 0:0, and so does a scanner,
-/// which has no tree here (this profile's: both are refused before a source is rewritten). Where the sets of the draft
-/// are in order and in its alphabet, so are those of the trees.
+/// The patterns of a scanner are walked in text order, as one expression is: their stamps, priority names and conditions
+/// go on from pattern to pattern (the guide's section 6.3; the walk is this profile's). A scanner is a node behind those
+/// of its patterns, at its `|*`, and no deeper than the deepest of them.
+///
+/// Any draft is taken. As a name, the number of no earlier definition stands for no word, at the place 0:0, and so does
+/// that of a scanner (this profile's: both are refused before a source is rewritten). Where the sets of the draft are in
+/// order and in its alphabet, so are those of the trees. A scanner has as many patterns as the draft says, so that where
+/// each of the draft's scanners has one, so does each entry that is one.
 ///
 /// The answer is `Limit` exactly where an entry has more than 100,000 nodes (L4), is more than 2,000 deep (L5), or brings
 /// a ninth condition (L7): the first such entry in text order, with the first of these limits, at the entry's name. It is
@@ -307,6 +309,7 @@ pub fn rewrite(alloc: Global, draft: &Draft) -> Result<Rewritten, RewriteFault>
     ensures differ { IfOk result (λ r. AreDifferent (map (λ (a : ActionId). a.0) r.conditions)) }
     ensures known { IfOk result (λ r. All (λ (e : entry_type.Entry). All (IsNumber (length r.conditions)) (flat_map conditions_in (trees_of (root_of e.root)))) r.entries) }
     ensures sets { IfOk result (λ r. HasSetsInForm draft.now → All (λ (e : entry_type.Entry). All (IsSet draft.now.alphabet) (flat_map sets_in (trees_of (root_of e.root)))) r.entries) }
+    ensures patterns { IfOk result (λ r. HasScannersInForm draft.now → All (λ (e : entry_type.Entry). HasPatterns (root_of e.root)) r.entries) }
     ensures refused { IfErr result (λ f. Refuses draft.now f) }
 {
     let definitions = draft.definitions.as_slice();

@@ -8,6 +8,7 @@ mod entries;
 mod joins;
 mod layers;
 mod leaves;
+mod patterns;
 mod placed;
 mod repeats;
 mod sizes;

@@ -1,16 +1,16 @@
 // Nodes and depth of trees before they are made.
-ghost use Rattle.std.specs.Prelude.{◌≡◌, ◌≤◌, min, max, map, slice_get, IfOk};
-ghost use Rattle.rl_rewrite.specs.Plain.{followed, operand_followed, operands_followed, value_followed, name_followed, leaf_plain, row};
-ghost use Rattle.rl_rewrite.specs.Sizes.{row_nodes, row_depth};
+ghost use Rattle.std.specs.Prelude.{◌≡◌, ◌≤◌, ◌+◌, min, max, map, length, take, slice_get, IfOk};
+ghost use Rattle.rl_rewrite.specs.Plain.{followed, operand_followed, operands_followed, patterns_followed, value_followed, value_behind, name_followed, leaf_plain, row};
+ghost use Rattle.rl_rewrite.specs.Sizes.{row_nodes, row_depth, pattern_nodes, pattern_depth};
 ghost use Rattle.rl_rewrite.specs.Measures as m;
-ghost use Rattle.rl_rewrite.specs.Measures.{IsCut, AreSizes, cut, measured};
+ghost use Rattle.rl_rewrite.specs.Measures.{IsCut, AreSizes, cut, measured, value_measured};
 
 use crate::leaves::first_item;
 use crate::repeats::has_copies;
 use crate::walk::before;
 use rl_draft::{
-    Bounds, Definition, Expression, Item, Join, Leaf, Link, Negation, NegationSign, Repetition,
-    Value,
+    Bounds, Definition, Expression, Item, Join, Leaf, Link, Negation, NegationSign, Pattern,
+    Repetition, Value,
 };
 use rl_types::{Alphabet, List};
 use std::alloc::{AllocError, Global};
@@ -315,15 +315,92 @@ fn links_of(
     s
 }
 
-// The size of what a definition gives its name to.
+// The size of what a definition stands for as a name.
 fn value_of(alphabet: Alphabet, earlier: &[Definition], sizes: &[Size], value: &Value) -> Size
     requires { AreSizes alphabet earlier.now sizes.now }
     ensures { result ≡ cut (measured (value_followed alphabet earlier.now value.now)) }
 {
     match value {
         Value::Expression(e) => size_of(alphabet, earlier, sizes, e),
-        Value::Scanner(_) => ONE,
+        Value::Scanner(_, _) => ONE,
     }
+}
+
+// A pattern beside those before it.
+fn beside(s: Size, pattern: Size) -> Size
+    requires few { (s.nodes ≤ 1000000) × (s.depth ≤ 1000000) }
+    requires cut { IsCut pattern }
+    ensures size { result ≡ cut (m.beside s pattern) }
+    ensures few { (result.nodes ≤ 1000000) × (result.depth ≤ 1000000) }
+{
+    cut_size(s.nodes + pattern.nodes, greater(s.depth, pattern.depth))
+}
+
+// The size of a pattern's expression beside those before it.
+#[tactic(auto, using(crate::proofs::CutLaws::known_cut))]
+fn pattern_beside(
+    alphabet: Alphabet,
+    earlier: &[Definition],
+    sizes: &[Size],
+    s: Size,
+    pattern: &Pattern,
+) -> Size
+    requires sizes { AreSizes alphabet earlier.now sizes.now }
+    requires few { (s.nodes ≤ 1000000) × (s.depth ≤ 1000000) }
+    ensures size { result ≡ cut (m.beside s (cut (measured (followed alphabet earlier.now pattern.now.expression)))) }
+    ensures few { (result.nodes ≤ 1000000) × (result.depth ≤ 1000000) }
+{
+    let size = size_of(alphabet, earlier, sizes, &pattern.expression);
+    beside(s, size)
+}
+
+// The patterns of a scanner beside its own node.
+fn patterns_beside(
+    alphabet: Alphabet,
+    earlier: &[Definition],
+    sizes: &[Size],
+    patterns: &[Pattern],
+) -> Size
+    requires { AreSizes alphabet earlier.now sizes.now }
+    ensures { result ≡ m.all_beside (record { nodes = 1; depth = 0 }) (patterns_followed alphabet earlier.now patterns.now) }
+{
+    let mut s = Size { nodes: 1, depth: 0 };
+    for pattern in patterns {
+        s = pattern_beside(alphabet, earlier, sizes, s, pattern);
+    }
+    s
+}
+
+// The size of a scanner: one node beside those of its patterns, and as deep as the deepest of them.
+fn scanner_size(
+    alphabet: Alphabet,
+    earlier: &[Definition],
+    sizes: &[Size],
+    patterns: &[Pattern],
+) -> Size
+    requires { AreSizes alphabet earlier.now sizes.now }
+    ensures { result ≡ cut (record { nodes = pattern_nodes (patterns_followed alphabet earlier.now patterns.now) + 1; depth = pattern_depth (patterns_followed alphabet earlier.now patterns.now) }) }
+{
+    patterns_beside(alphabet, earlier, sizes, patterns)
+}
+
+// The size of an entry.
+pub fn entry_size(alphabet: Alphabet, earlier: &[Definition], sizes: &[Size], value: &Value) -> Size
+    requires { AreSizes alphabet earlier.now sizes.now }
+    ensures { result ≡ cut (value_measured (value_behind alphabet earlier.now value.now)) }
+{
+    match value {
+        Value::Expression(e) => size_of(alphabet, earlier, sizes, e),
+        Value::Scanner(patterns, _) => scanner_size(alphabet, earlier, sizes, patterns.as_slice()),
+    }
+}
+
+// The sizes of the definitions before the one with a number.
+pub fn sizes_before(sizes: &[Size], n: usize) -> &[Size]
+    requires { n ≤ length sizes.now }
+    ensures { result.now ≡ take n sizes.now }
+{
+    &sizes[..n]
 }
 
 // The sizes of all definitions.

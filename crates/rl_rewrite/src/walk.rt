@@ -123,7 +123,7 @@ fn walk_name(
     }
 }
 
-// The tree of what a definition gives its name to. A scanner has none: it stands for no word.
+// The tree of what a definition stands for as a name: a scanner stands for no word.
 #[cycle(walk)]
 pub fn walk_value(
     alloc: Global,
@@ -139,7 +139,7 @@ pub fn walk_value(
 {
     match value {
         Value::Expression(e) => walk(alloc, alphabet, earlier, e, counts),
-        Value::Scanner(_) => single(alloc, Tree::Nothing, NO_PLACE),
+        Value::Scanner(_, _) => single(alloc, Tree::Nothing, NO_PLACE),
     }
 }
 

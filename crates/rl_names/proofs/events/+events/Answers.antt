@@ -1,9 +1,9 @@
-use Rattle.std.proofs.Common.{◌≡◌, ◌++◌, map, OnOk, refl, ap, subst, ◌∙◌}
+use Rattle.std.proofs.Common.{◌≡◌, ◌++◌, map, OnOk, sym, ap, subst, ◌∙◌}
+use Rattle.std.proofs.lemmas.List.{append-nil}
 use Rattle.std.specs.List.{flat_map}
-use Rattle.rl_grammar.specs.declared.syntax.Pattern.{out-Pattern}
-use Rattle.rl_names.specs.Events.{seen, embedding_events, token_events, union_events, scanner_events, pattern_events}
-use Rattle.rl_names.specs.Uses.{concatenation_part_uses, union_part_uses, scanner_uses}
-use Rattle.rl_names.proofs.EventLaws.{literal_leaf, number_leaf, range_leaf, set_leaf, regular_leaf, name_leaf, group_inside, scanner_inside, two_parts, embedded_is, concatenation_is, union_is, pattern_is, scanner_is}
+use Rattle.rl_names.specs.Events.{seen, embedding_events, union_events}
+use Rattle.rl_names.specs.Uses.{concatenation_part_uses, union_part_uses}
+use Rattle.rl_names.proofs.EventLaws.{literal_leaf, number_leaf, range_leaf, set_leaf, regular_leaf, name_leaf, group_inside, scanner_inside, two_parts, embedded_is, concatenation_is, union_is}
 use Rattle.rl_names.proofs.events.+events.Goals as goal
 
 pub operand-returns-in-Literal : goal.operand-returns-in-Literal
@@ -29,7 +29,7 @@ operand-returns-in-Group t c = subst (λ z. OnOk c.union.result (map seen c.unio
 
 pub operand-returns-in-Scanner : goal.operand-returns-in-Scanner
 operand-returns-in-Scanner t c =
-    subst (λ z. OnOk c.scanner.result (map seen c.scanner.new.found.items ≡ map seen c.args.found.now.items ++ z)) (ap scanner_events c.get-in-Scanner.ensures ∙ scanner_inside c.args.operand.now _ c.in-Scanner.is) c.scanner.ensures
+    sym (append-nil (map seen c.args.found.now.items)) ∙ ap (λ z. map seen c.args.found.now.items ++ z) (scanner_inside c.args.operand.now _ c.in-Scanner.is)
 
 pub embedded-returns : goal.embedded-returns
 embedded-returns t c =
@@ -45,18 +45,3 @@ pub union-returns : goal.union-returns
 union-returns t c =
     subst (λ z. OnOk c.union_parts.result (map seen c.union_parts.new.found.items ≡ z))
     (two_parts (map seen c.args.found.now.items) (map seen c.concatenation.new.found.items) _ (flat_map union_part_uses c.as_slice.result.now) _ _ c.in_ok-concatenation.ensures (ap (flat_map union_part_uses) c.as_slice.ensures) (union_is c.args.union.now)) c.union_parts.ensures
-
-pub pattern-returns : goal.pattern-returns
-pattern-returns t c =
-    subst (λ z. OnOk c.token.result (map seen c.token.new.found.items ≡ z))
-    (two_parts (map seen c.args.found.now.items) (map seen c.union.new.found.items) _ (token_events (out-Pattern c.args.pattern.now).action) (token_events (out-Pattern c.args.pattern.now).action) _ c.in_ok-union.ensures refl (pattern_is c.args.pattern.now)) c.token.ensures
-
-pub inside-returns : goal.inside-returns
-inside-returns t c =
-    subst (λ z. OnOk c.patterns.result (map seen c.patterns.new.found.items ≡ z))
-    (two_parts (map seen c.args.found.now.items) (map seen c.pattern.new.found.items) _ (flat_map pattern_events c.as_slice.result.now) _ (scanner_uses c.args.scanner.now) c.in_ok-pattern.ensures (ap (flat_map pattern_events) c.as_slice.ensures) refl) c.patterns.ensures
-
-pub scanner-returns : goal.scanner-returns
-scanner-returns t c =
-    subst (λ z. OnOk c.inside.result (map seen c.inside.new.found.items ≡ z))
-    (two_parts (map seen c.args.found.now.items) (map seen c.push.new.found.items) _ (scanner_uses c.args.scanner.now) (scanner_uses c.args.scanner.now) _ c.in_ok-push.ensures refl (scanner_is c.args.scanner.now)) c.inside.ensures
