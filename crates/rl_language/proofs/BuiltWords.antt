@@ -15,7 +15,9 @@ use Rattle.rl_model.specs.Parts.{StandsAt}
 use Rattle.rl_model.specs.Specification.{Specification, Root, Plain, Scanner, roots_of}
 use Rattle.rl_model.specs.Trees.{Tests, IsHonest, root_at, tests_at, ConfAt, TestsOf, AreTestsHonest, HasHonestTests, context_of, tree_machine}
 use Rattle.rl_build.specs.Entries.{IsMachineOf, AreMachinesOf}
-use Rattle.rl_build.specs.Roots.{graph_of, graph_at, part_at, root_machine, IsTwinOf}
+use Rattle.rl_fsm.specs.Roots.{graph_of, graph_at}
+use Rattle.rl_root.specs.Roots.{part_at, root_machine}
+use Rattle.rl_build.specs.Roots.{IsTwinOf}
 use Rattle.rl_language.specs.Verdicts.{IsWithoutPriorities, IsWordOfEntry, HasNoStatements, VerdictsTellWords}
 use Rattle.rl_language.proofs.Matching.{automata_match}
 use Rattle.rl_language.proofs.TreeWords.{tests_honest, iff_then, tree_tells, same_tell}
@@ -31,10 +33,11 @@ machine_match : (x : Root) (m : EntryFsm) → IsMachineOf x m → (k : Tests x) 
 machine_match (Plain t) (F.Plain g) stands k h e w =
     let b = stands k h in
     iff_then (follows_match (fsm_auto g) (auto t k) b.name b.follows w) (automata_match t k e h w)
-machine_match (Scanner ps) (F.Plain g) stands k h e w = absurd e
+machine_match (Plain t) (F.Scanner s) stands k h e w = absurd stands
+machine_match (Scanner ps) m stands k h e w = absurd e
 
 -- the machine of an entry
-machines_at : (xs : List Root) (ms : List EntryFsm) → AreMachinesOf xs ms → (i : ℕ) → i < length xs → (m : EntryFsm) × (slice_get ms i ≡ Some m) × IsMachineOf (root_at xs (suc i)) m
+pub machines_at : (xs : List Root) (ms : List EntryFsm) → AreMachinesOf xs ms → (i : ℕ) → i < length xs → (m : EntryFsm) × (slice_get ms i ≡ Some m) × IsMachineOf (root_at xs (suc i)) m
 machines_at [] ms h i lt = absurd (omega arith)
 machines_at (x ∷ xs) [] h i lt = absurd h
 machines_at (x ∷ xs) (m ∷ ms) h zero lt = (m, refl, h.0)
@@ -51,7 +54,7 @@ graph_there ms i m e =
     less : (i : ℕ) → suc i - 1 ≡ i
     less i = omega arith
 
-mapped_length : {X Y : Type 0} (f : X → Y) (xs : List X) → length (map f xs) ≡ length xs
+pub mapped_length : {X Y : Type 0} (f : X → Y) (xs : List X) → length (map f xs) ≡ length xs
 mapped_length f [] = refl
 mapped_length f (x ∷ xs) = ap suc (mapped_length f xs)
 

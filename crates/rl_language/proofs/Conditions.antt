@@ -30,10 +30,10 @@ pub ends_bind : {A B : Type 0} (Fits : Call → Answer → Type 0) (P : A → Ty
 ends_bind Fits P Q (done a) k h f = f a h
 ends_bind Fits P Q (ask c g) k h f = λ x e. ends_bind Fits P Q (g x) k (h x e) f
 
-some_end : {A : Type 0} (a b : A) → ended a ≡ ended b → a ≡ b
+pub some_end : {A : Type 0} (a b : A) → ended a ≡ ended b → a ≡ b
 some_end a b e = cc
 
-no_end : {A X : Type 0} (p : Play A) (a : A) → stands p ≡ ended a → X
+pub no_end : {A X : Type 0} (p : Play A) (a : A) → stands p ≡ ended a → X
 no_end p a e = cc
 
 -- what holds wherever it may end holds where it ends

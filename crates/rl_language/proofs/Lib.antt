@@ -9,5 +9,14 @@ pub mod BuiltWords
 pub mod Unasked
 pub mod UnaskedWords
 pub mod ScannerWords
+pub mod LongestMatch
+pub mod BuiltScanners
+pub mod TokenPlays
+pub mod TokenTurns
+pub mod TokenRuns
+pub mod TokenWords
+pub mod SaidTurns
+pub mod SaidRuns
+pub mod Scripts
 pub mod SmallWords
 pub mod Replays

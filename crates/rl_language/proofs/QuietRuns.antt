@@ -34,14 +34,14 @@ use Rattle.rl_language.proofs.Unasked.{eof_ask}
 use Rattle.rl_language.proofs.QuietTurns.{AreQuiet, answered_unmoved, IsHeld, after_calls, Shows, standing, Turned, held, stuck, went, turn_turns}
 
 -- the rest of the input stands at a position
-abbrev Sees : Input → ℕ → List ℕ → Type 0
+abbrev pub Sees : Input → ℕ → List ℕ → Type 0
 Sees input p [] = (letter input p ≡ None) × (p ≡ end_of input)
 Sees input p (character ∷ more) = (letter input p ≡ Some character) × Sees input (p + 1) more
 
-partial_final : {P : Type 0} → Partial ≡ Final → P
+pub partial_final : {P : Type 0} → Partial ≡ Final → P
 partial_final e = cc
 
-error_final : {P : Type 0} → Error ≡ Final → P
+pub error_final : {P : Type 0} → Error ≡ Final → P
 error_final e = cc
 
 module _ {C S : Type 0} (A : Auto C) (m : Machine S) (place : C → S) (shows : Shows A m place) (settings : Settings) (truths : ℕ → ℕ) (low : (p : ℕ) → truths p < 2 ^ 8) (Fits : Call → Answer → Type 0) (Sort : StopCause → Type 0) (answers : AreQuiet m settings truths Fits Sort) where
@@ -163,7 +163,7 @@ module _ (all : List ℕ) (half : Bool) where
   not_before : (p : ℕ) → nat_lt p 0 ≡ false
   not_before p = grind (arith, nat_tests)
 
-  seen_at : (p : ℕ) → letter input p ≡ slice_get all p
+  pub seen_at : (p : ℕ) → letter input p ≡ slice_get all p
   seen_at p = ap (λ b. cond b None (slice_get all (p - 0))) (not_before p) ∙ ap (slice_get all) (less p)
     where
       less : (p : ℕ) → p - 0 ≡ p
@@ -240,7 +240,7 @@ module _ {C S : Type 0} (A : Auto C) (m : Machine S) (place : C → S) (shows : 
 
 -- ---- a run against a host of which no answer stops it
 
-never_stopped : (o : Option Outcome) → IsStoppedBy (λ cause. ⊥) o → ⊥
+pub never_stopped : (o : Option Outcome) → IsStoppedBy (λ cause. ⊥) o → ⊥
 never_stopped None h = h
 never_stopped (Some Wants) h = h
 never_stopped (Some Broke) h = h

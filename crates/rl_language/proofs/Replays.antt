@@ -30,10 +30,10 @@ use Rattle.rl_language.proofs.QuietRuns.{hosted_tells}
 use Rattle.rl_language.proofs.TreeWords.{plain_part, root_matches, root_asks, tests_honest, place, entry_shows, entry_starts, is_within, told_then}
 
 -- what a host answers by itself where no action has a statement: No to a condition, and no picks
-abbrev plain_answer : Call → Answer
+abbrev pub plain_answer : Call → Answer
 plain_answer c = cond (is_ask c.kind) No (cond (takes_picks c.kind) (picks_answer []) Yes)
 
-abbrev IsPlainAnswer : Call → Answer → Type 0
+abbrev pub IsPlainAnswer : Call → Answer → Type 0
 IsPlainAnswer c x = x ≡ plain_answer c
 
 module _ {S : Type 0} (m : Machine S) (settings : Settings) where
@@ -64,11 +64,11 @@ module _ {S : Type 0} (m : Machine S) (settings : Settings) where
     none_from action (suc most) n =
         ap (λ o. elim o as (λ _. List Numbered) [ None ↦ [] | Some statement ↦ (n, statement) ∷ statements_from m action most (n + 1) ]) (quiet action n)
 
-    no_picks : (c : Call) → own_picks m c ≡ []
+    pub no_picks : (c : Call) → own_picks m c ≡ []
     unfolding statements_of
     no_picks c = ap (picks_among c) (none_from c.action.0 4294967295 1)
 
-    last_is : (o : Option Call) (past : List Call) (c : Call) → last_or o (past ++ c ∷ []) ≡ Some c
+    pub last_is : (o : Option Call) (past : List Call) (c : Call) → last_or o (past ++ c ∷ []) ≡ Some c
     last_is o [] c = refl
     last_is o (d ∷ past) c = last_is (Some d) past c
 

@@ -82,7 +82,7 @@ some_says : (ps : List Pattern) (k : PatternMarks ps) → ArePatternsWithoutPrio
 some_says [] k e h w = says_never (λ x. x)
 some_says (p ∷ ps) k e h w = says_or (accepts (auto p.tree k.0) w (auto p.tree k.0).start) (some_accepts ps k.1 w (starts ps k.1)) (matches p.tree k.0 e.0 h.0 w) (some_says ps k.1 e.1 h.1 w)
 
-scan_says : (ps : List Pattern) (k : PatternMarks ps) → ArePatternsWithoutPriorities ps → ArePatternsHonest ps k → (w : List Letter) → Says (accepts (scan_auto ps k) w (scan_auto ps k).start) (IsWordOfSome ps w)
+pub scan_says : (ps : List Pattern) (k : PatternMarks ps) → ArePatternsWithoutPriorities ps → ArePatternsHonest ps k → (w : List Letter) → Says (accepts (scan_auto ps k) w (scan_auto ps k).start) (IsWordOfSome ps w)
 scan_says ps k e h w = says_as (quiet_accepts (scan_raw ps k) w (starts ps k) ∙ scan_accepts ps k e w (starts ps k)) (some_says ps k e h w)
 
 pub scan_match : (ps : List Pattern) (k : PatternMarks ps) → ArePatternsWithoutPriorities ps → ArePatternsHonest ps k → (w : List Letter) → Ends (scan_auto ps k) w (scan_auto ps k).start ↔ IsWordOfSome ps w
@@ -92,7 +92,7 @@ scan_match ps k e h w =
 
 -- ---- where no letter leads on
 
-led_accepts : {S : Type 0} (A : Auto S) (w v : List Letter) (c d : S) → Leads A w c d → accepts A (w ++ v) c ≡ accepts A v d
+pub led_accepts : {S : Type 0} (A : Auto S) (w v : List Letter) (c d : S) → Leads A w c d → accepts A (w ++ v) c ≡ accepts A v d
 led_accepts {S} A [] v c d e = ap (accepts A v) e
 led_accepts {S} A (l ∷ w) v c d (m, p, h) = ap (on_part false (λ (n : Move S). accepts A (w ++ v) n.to)) p ∙ led_accepts A w v m.to d h
 

@@ -103,20 +103,20 @@ module _ {S T : Type 0} (m : Machine S) (w : Machine T) (rename : ℕ → ℕ) (
       let h : IsAnsweredBy truths (renamed rename c) x = subst (λ y. IsAnsweredBy truths y x) e g in
       h p ∙ ap (λ kind. cond (holds (renames rename kind c.action.0) (truths c.at)) Yes No) p
 
-  same_answers : (truths : ℕ → ℕ) (cs ds : List Call) (xs : List Answer) → AllZip (CallR m w rename) cs ds → AreAnsweredBy truths ds xs → AreAnsweredBy truths cs xs
+  pub same_answers : (truths : ℕ → ℕ) (cs ds : List Call) (xs : List Answer) → AllZip (CallR m w rename) cs ds → AreAnsweredBy truths ds xs → AreAnsweredBy truths cs xs
   same_answers truths [] ds xs z g = tt
   same_answers truths (c ∷ cs) [] xs z g = absurd z
   same_answers truths (c ∷ cs) (d ∷ ds) [] z g = tt
   same_answers truths (c ∷ cs) (d ∷ ds) (x ∷ xs) z g = (same_answer truths c d x z.0 g.0, same_answers truths cs ds xs z.1 g.1)
 
-  same_end : (x : Reached (Rest S)) (y : Reached (Rest T)) (r : Rest T) → ReachAlike m w rename R x y → y ≡ ended r → (a : Rest S) × (x ≡ ended a) × EndsAlike m w rename R a r
+  pub same_end : (x : Reached (Rest S)) (y : Reached (Rest T)) (r : Rest T) → ReachAlike m w rename R x y → y ≡ ended r → (a : Rest S) × (x ≡ ended a) × EndsAlike m w rename R a r
   same_end x y r h e = by x (subst (ReachAlike m w rename R x) e h)
     where
       by : (x : Reached (Rest S)) → ReachAlike m w rename R x (ended r) → (a : Rest S) × (x ≡ ended a) × EndsAlike m w rename R a r
       by (ended a) h = (a, refl, h)
       by (stands p) h = absurd h
 
-  same_letters : ((character : ℕ) → w.key_of character ≡ m.key_of character) → (truths : ℕ → ℕ) (at : ℕ) (all : List ℕ) →
+  pub same_letters : ((character : ℕ) → w.key_of character ≡ m.key_of character) → (truths : ℕ → ℕ) (at : ℕ) (all : List ℕ) →
       letters_from w.key_of truths at all ≡ letters_from m.key_of truths at all
   same_letters k truths at [] = refl
   same_letters k truths at (character ∷ all) = λ i. record { key = (k character i).0; truths = truths at } ∷ same_letters k truths (at + 1) all i

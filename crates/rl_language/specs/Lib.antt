@@ -2,3 +2,4 @@ pub mod Verdicts
 pub mod Scanners
 pub mod Rows
 pub mod Replays
+pub mod Tokens

@@ -7,7 +7,7 @@ mod laws;
 mod rows;
 
 pub use laws::{
-    automata_match_words, built_machines_match_words, replays_tell_words, scanners_match_words,
-    verdicts_tell_words,
+    automata_match_words, built_machines_match_words, built_scanners_match_words,
+    replays_tell_words, scanners_cut_inputs, scanners_match_words, verdicts_tell_words,
 };
 pub use rows::words_of_small_expressions;
