@@ -1,0 +1,7 @@
+pub mod Modes
+pub mod Names
+pub mod Code
+pub mod Lines
+pub mod Texts
+pub mod Seen
+pub mod Rows
