@@ -1,13 +1,17 @@
 -- Of Specs that say the same, the same node is refused.
-use Rattle.std.proofs.Common.{◌≡◌, ◌∙◌, ℕ, ◌-◌, nat_lt, cond, List, [], ◌∷◌, map, length, slice_get, Option, Some, None, refl, sym, ap, subst}
+use Rattle.std.proofs.Common.{◌≡◌, ◌∙◌, ℕ, zero, suc, ◌-◌, nat_lt, cond, List, [], ◌∷◌, map, length, slice_get, Option, Some, None, option_map, refl, sym, ap, subst}
 use Rattle.rl_types.specs.declared.numbers.Place.{Place}
 use Rattle.rl_automata.specs.Refused as cause
 use Rattle.rl_automata.specs.Refused.{Cause, IsRefusal, AreBuildable}
 use Rattle.rl_automata.proofs.RefusalLaws.{one_refusal, refused_or_built}
+use Rattle.rl_model.specs.declared.spec.Pattern as rust
+use Rattle.rl_model.specs.declared.spec.Root as rust_root
+use Rattle.rl_model.specs.declared.spec.Root.TheVariants as R
 use Rattle.rl_model.specs.declared.spec.Entry as rust_entry
 use Rattle.rl_model.specs.declared.spec.Spec.{Spec}
 use Rattle.rl_model.specs.Specification.{specification_of, roots_of}
-use Rattle.rl_model.specs.RefusedNode.{IsRefusedAt, IsBuildable, cause_place, place_at}
+use Rattle.rl_model.specs.WellFormed.{pattern_places}
+use Rattle.rl_model.specs.RefusedNode.{IsRefusedAt, IsBuildable, pattern_place, cause_place, place_at}
 use Rattle.rl_includes.specs.declared.unrolled.Stop.{Stop}
 use Rattle.rl_rewrite.specs.Entries.{Made, made_of}
 use Rattle.rl_resolve.specs.Descriptions.{Description, description}
@@ -17,34 +21,46 @@ use Rattle.ragel_run.specs.Sources.{IsToldAs}
 
 -- ---- what a description tells
 
--- the place of a node among entries
-abbrev place_made : List Made → ℕ → Option Place
-place_made [] i = None
-place_made (m ∷ ms) i = cond (nat_lt i (length m.places)) (slice_get m.places i) (place_made ms (i - length m.places))
+-- the place at which a node of an entry is refused: for a pattern of the empty word the pattern's, else the node's
+abbrev cause_made : Made → ℕ → Cause → Option Place
+cause_made m i cause.L6 = slice_get m.places i
+cause_made m i cause.L8 = slice_get m.places i
+cause_made m i cause.F15 = slice_get m.places i
+cause_made m i (cause.F12 j) = slice_get m.pattern_places j
 
--- the cause of a node of an expression, which stands at its first token
-abbrev IsOfNode : Cause → Type 0
-IsOfNode c = (e : rust_entry.Entry) (i : ℕ) → cause_place e i c ≡ slice_get e.places i
+-- the same of a node among entries
+abbrev place_made : List Made → ℕ → Cause → Option Place
+place_made [] i c = None
+place_made (m ∷ ms) i c = cond (nat_lt i (length m.places)) (cause_made m i c) (place_made ms (i - length m.places) c)
 
-places_are : (c : Cause) → IsOfNode c → (es : List rust_entry.Entry) (i : ℕ) → place_at es i c ≡ place_made (map made_of es) i
-places_are c h [] i = refl
-places_are c h (e ∷ es) i =
-    ap (λ o. cond (nat_lt i (length e.places)) o (place_at es (i - length e.places) c)) (h e i)
-    ∙ ap (λ o. cond (nat_lt i (length e.places)) (slice_get e.places i) o) (places_are c h es (i - length e.places))
+mapped_at : {X Y : Type 0} (f : X → Y) (xs : List X) (j : ℕ) → option_map f (slice_get xs j) ≡ slice_get (map f xs) j
+mapped_at f [] j = refl
+mapped_at f (x ∷ xs) zero = refl
+mapped_at f (x ∷ xs) (suc j) = mapped_at f xs j
+
+pattern_made : (r : rust_root.Root) (j : ℕ) → pattern_place r j ≡ slice_get (pattern_places r) j
+pattern_made (R.Plain t) j = refl
+pattern_made (R.Scanner ps) j = mapped_at (λ (p : rust.Pattern). p.place) ps j
+
+cause_is : (c : Cause) (e : rust_entry.Entry) (i : ℕ) → cause_place e i c ≡ cause_made (made_of e) i c
+cause_is cause.L6 e i = refl
+cause_is cause.L8 e i = refl
+cause_is cause.F15 e i = refl
+cause_is (cause.F12 j) e i = pattern_made e.root j
+
+places_are : (c : Cause) (es : List rust_entry.Entry) (i : ℕ) → place_at es i c ≡ place_made (map made_of es) i c
+places_are c [] i = refl
+places_are c (e ∷ es) i =
+    ap (λ o. cond (nat_lt i (length e.places)) o (place_at es (i - length e.places) c)) (cause_is c e i)
+    ∙ ap (λ o. cond (nat_lt i (length e.places)) (cause_made (made_of e) i c) o) (places_are c es (i - length e.places))
 
 -- ---- what is told
-
-told_of_node : (c : Cause) (p : Place) (file : List ℕ) (s : Stop) → IsToldAs c p file s → IsOfNode c
-told_of_node cause.L6 p file s h = λ e i. refl
-told_of_node cause.L8 p file s h = λ e i. refl
-told_of_node cause.F15 p file s h = λ e i. refl
-told_of_node (cause.F12 j) p file s h = absurd h
 
 told_once : (c : Cause) (p : Place) (file : List ℕ) (s t : Stop) → IsToldAs c p file s → IsToldAs c p file t → s ≡ t
 told_once cause.L6 p file s t h k = h ∙ sym k
 told_once cause.L8 p file s t h k = h ∙ sym k
 told_once cause.F15 p file s t h k = h ∙ sym k
-told_once (cause.F12 j) p file s t h k = absurd h
+told_once (cause.F12 j) p file s t h k = h ∙ sym k
 
 some_same : (p q : Place) → Some p ≡ Some q → p ≡ q
 some_same p q e = cc
@@ -61,9 +77,9 @@ module _ (a b : Spec) (same : description a ≡ description b) where
       subst (λ x. IsRefusal x (roots_of (specification_of a)) i c) (sym (ap (λ (d : Description). d.alphabet) same))
       (subst (λ rs. IsRefusal b.alphabet rs i c) (sym same_roots) h)
 
-  place_once : (c : Cause) → IsOfNode c → (i : ℕ) (p q : Place) → place_at a.entries i c ≡ Some p → place_at b.entries i c ≡ Some q → q ≡ p
-  place_once c h i p q e f =
-      some_same q p (sym f ∙ places_are c h b.entries i ∙ sym (ap (λ (d : Description). place_made d.entries i) same) ∙ sym (places_are c h a.entries i) ∙ e)
+  place_once : (c : Cause) (i : ℕ) (p q : Place) → place_at a.entries i c ≡ Some p → place_at b.entries i c ≡ Some q → q ≡ p
+  place_once c i p q e f =
+      some_same q p (sym f ∙ places_are c b.entries i ∙ sym (ap (λ (d : Description). place_made d.entries i c) same) ∙ sym (places_are c a.entries i) ∙ e)
 
   -- one stop is told
   pub node_once : (c d : Cause) (p q : Place) (s t : Stop) → IsRefusedAt a c p → IsToldAs c p (file_name a.files p.file) s →
@@ -71,9 +87,8 @@ module _ (a b : Spec) (same : description a ≡ description b) where
   node_once c d p q s t (i, h, e) told (j, k, f) tells =
       let once = one_refusal a.alphabet (roots_of (specification_of a)) i j c d h (moved j d k) in
       let told_d = subst (λ x. IsToldAs x p (file_name a.files p.file) s) once.1 told in
-      let node = told_of_node d p (file_name a.files p.file) s told_d in
       let here : place_at a.entries j d ≡ Some p = subst (λ n. place_at a.entries n d ≡ Some p) once.0 (subst (λ x. place_at a.entries i x ≡ Some p) once.1 e) in
-      let place = place_once d node j p q here f in
+      let place = place_once d j p q here f in
       let files : b.files ≡ a.files = sym (ap (λ (x : Description). x.files) same) in
       told_once d p (file_name a.files p.file) s t told_d
       (subst (λ fs. IsToldAs d p (file_name fs p.file) t) files (subst (λ x. IsToldAs d x (file_name b.files x.file) t) place tells))

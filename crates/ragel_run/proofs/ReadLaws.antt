@@ -2,6 +2,7 @@
 use Rattle.std.proofs.Common.{◌≡◌, ◌∙◌, ◌<◌, inl, inr, ℕ, suc, List, [], ◌∷◌, length, All, slice_get, Some, Result, Ok, Err, refl, sym, ap, subst, arith}
 use Rattle.std.specs.Prelude.{IfOk, IfErr, IfSome}
 use Rattle.rl_types.specs.declared.faults.Fault.{Fault}
+use Rattle.rl_types.specs.declared.faults.FaultKind.TheVariants.{F12}
 use Rattle.rl_types.specs.declared.faults.Limit.{Limit}
 use Rattle.rl_io.specs.Outside.{Held, Rose, Reads}
 use Rattle.rl_grammar.specs.declared.read_fault.ReadFault.TheVariants as reason
@@ -12,9 +13,10 @@ use Rattle.rl_automata.specs.Refused.{Cause}
 use Rattle.rl_arrays.specs.declared.arrays.Arrays.{Arrays}
 use Rattle.rl_model.specs.declared.spec.Spec.{Spec}
 use Rattle.rl_model.specs.RefusedNode.{IsRefusedAt, IsBuildable}
-use Rattle.rl_form.specs.Form.{HasForm}
+use Rattle.rl_model.specs.WellFormed.{IsWellFormed}
 use Rattle.rl_build.specs.declared.fault.BuildRefusal.{BuildRefusal}
 use Rattle.rl_build.specs.Entries.{TellsRefusal}
+use Rattle.rl_build.specs.Trees.{cause_of}
 use Rattle.rl_files.specs.Files.{ReadsAs, IsRefusal, Explains}
 use Rattle.rl_includes.specs.declared.unrolled.Stop.{Stop}
 use Rattle.rl_includes.specs.declared.unrolled.Stop.TheVariants as stop
@@ -104,9 +106,9 @@ pub first_is : (specs seen : List Spec) (spec : Spec) → seen ≡ specs → Som
 first_is specs seen spec same at = subst (λ xs. slice_get xs 0 ≡ Some spec) same (sym at)
 
 -- it has its form
-pub first_formed : (specs : List Spec) (spec : Spec) → All IsFormed specs → HasRunning First specs → slice_get specs 0 ≡ Some spec → HasForm spec
+pub first_formed : (specs : List Spec) (spec : Spec) → All IsFormed specs → HasRunning First specs → slice_get specs 0 ≡ Some spec → IsWellFormed spec
 first_formed [] spec formed running at = absurd running
-first_formed (x ∷ xs) spec formed running at = subst HasForm (same_spec x spec at) (formed 0 x (some xs) running)
+first_formed (x ∷ xs) spec formed running at = subst IsWellFormed (same_spec x spec at) (formed 0 x (some xs) running)
   where
     same_spec : (a b : Spec) → Some a ≡ Some b → a ≡ b
     same_spec a b e = cc
@@ -123,12 +125,17 @@ of_node spec r _ t k = k
 pub node_told : (spec : Spec) (files : List (List ℕ)) (r : BuildRefusal) (e : Refusal) → files ≡ spec.files → TellsRefusal spec r → TellsNode files r e → IsRefusedSpec spec e
 node_told spec files r e same t k = of_node spec r e t (subst (λ fs. TellsNode fs r e) same k)
 
+-- a pattern that matches the empty word
+pub empty_token_told : (files : List (List ℕ)) (r : BuildRefusal) (i : ℕ) (file : List ℕ) (e : Refusal) → cause_of r.fault ≡ Some (cause.F12 i) → file ≡ file_name files r.place.file →
+    e ≡ refusals.Source (stop.Fault (record { kind = F12; place = r.place }) file) → TellsNode files r e
+empty_token_told files r i file e c n t = subst (λ x. TellsNode files r x) (sym t) (cause.F12 i, c, ap (λ name. stop.Fault (record { kind = F12; place = r.place }) name) n)
+
 -- a refused node is no failure of the store
 not_failed : (c : Cause) (place : Place) (file name : List ℕ) → IsToldAs c place file (stop.StoreFailed name) → ⊥
 not_failed cause.L6 place file name h = absurd (cc h)
 not_failed cause.L8 place file name h = absurd (cc h)
 not_failed cause.F15 place file name h = absurd (cc h)
-not_failed (cause.F12 i) place file name h = h
+not_failed (cause.F12 i) place file name h = absurd (cc h)
 
 unbuilt : (held : Held) (name : List ℕ) (before now : ℕ) (s : Stop) → IsUnbuilt held name s → now ≡ before → RefusesSource held name before now s
 unbuilt held name before now (stop.Fault fault file) h quiet = inl (inr (inr h), quiet)

@@ -1,6 +1,6 @@
 -- What a source comes to: the machine that is run, or why there is none (this profile).
 use Rattle.std.specs.Prelude.{◌≡◌, ◌⊎◌, ℕ, List, Some, slice_get}
-use Rattle.rl_types.specs.declared.faults.FaultKind.TheVariants.{F15}
+use Rattle.rl_types.specs.declared.faults.FaultKind.TheVariants.{F12, F15}
 use Rattle.rl_types.specs.declared.faults.LimitKind.TheVariants.{L6, L8}
 use Rattle.rl_types.specs.declared.numbers.Place.{Place}
 use Rattle.rl_io.specs.Outside.{Held, Reads, Lacks}
@@ -61,12 +61,12 @@ pub record IsUnresolved (Failed : Type 0) (held : Held) (name : List ℕ) (s : S
   pub refused : Refuses held name trees First (stopped_by s)
   pub due : (Failed → ⊥) → IsDue held name trees First (stopped_by s)
 
--- how a refused node is told, with the name of its file; a scanner is none yet
+-- how a refused node is told, with the name of its file
 abbrev pub IsToldAs : Cause → Place → List ℕ → Stop → Type 0
 IsToldAs cause.L6 place file s = s ≡ stop.Limit (record { kind = L6; place = place }) file
 IsToldAs cause.L8 place file s = s ≡ stop.Limit (record { kind = L8; place = place }) file
 IsToldAs cause.F15 place file s = s ≡ stop.Fault (record { kind = F15; place = place }) file
-IsToldAs (cause.F12 i) place file s = ⊥
+IsToldAs (cause.F12 i) place file s = s ≡ stop.Fault (record { kind = F12; place = place }) file
 
 -- a node of its first machine is refused
 pub record IsUnbuilt (held : Held) (name : List ℕ) (s : Stop) : Type 0 where

@@ -117,7 +117,7 @@ fn replay_telling<S: Store, O: Sink, E: Sink>(
 ///   that the machine of the printed tables makes.
 /// - `Usage`: the words are not two. The line on `err` is `usage`.
 /// - `Source`: the source has a fault, or a file that it includes; the first is named with its file and its place, as in
-///   `NAME:1:24: F3 syntax`. F20 stands for what is not built yet.
+///   `NAME:1:24: F3 syntax`.
 /// - `Limit`: the source passes a limit; the first is named, as in `NAME:1:152: L3 parentheses`.
 /// - `Tables`: the printed file has no section (`NAME: no section`), or the first line of the section or the first element
 ///   of its arrays that is not right is named, as in `NAME:4: bad text` and `NAME: bad value in trans_targs at 1`.

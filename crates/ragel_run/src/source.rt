@@ -1,6 +1,6 @@
 // The tables of a source's first machine.
 ghost use Rattle.std.specs.Prelude.{◌≡◌, IfOk, IfErr, All};
-ghost use Rattle.rl_form.specs.Form.{HasForm};
+ghost use Rattle.rl_model.specs.WellFormed.{IsWellFormed};
 ghost use Rattle.rl_model.specs.RefusedNode.{IsBuildable};
 ghost use Rattle.rl_resolve.specs.Answers.{HasEntry, IsFormed, HasRunning};
 ghost use Rattle.rl_resolve.specs.Refusals.{file_name};
@@ -132,7 +132,7 @@ fn fault_at(kind: FaultKind, place: Place, file: Name) -> Refusal
     Refusal::Source(Stop::Fault(Fault { kind, place }, file))
 }
 
-// How a refused node is told. No node of an expression is refused for F12, and scanners are not built yet.
+// How a refused node is told.
 fn refusal_by_node(alloc: Global, files: &[Name], refusal: BuildRefusal) -> Refusal
     ensures { TellsNode files.now refusal result }
 {
@@ -144,13 +144,14 @@ fn refusal_by_node(alloc: Global, files: &[Name], refusal: BuildRefusal) -> Refu
         BuildFault::L6 => limit_at(LimitKind::L6, place, file),
         BuildFault::L8 => limit_at(LimitKind::L8, place, file),
         BuildFault::F15 => fault_at(FaultKind::F15, place, file),
-        BuildFault::F12(_) | BuildFault::Memory => Refusal::Memory,
+        BuildFault::F12(_) => fault_at(FaultKind::F12, place, file),
+        BuildFault::Memory => Refusal::Memory,
     }
 }
 
 // The tables of a Spec.
 fn tables_for(alloc: Global, spec: &Spec) -> Result<Tables, Refusal>
-    requires { HasForm spec.now }
+    requires { IsWellFormed spec.now }
     ensures buildable { IfOk result (λ _. IsBuildable spec.now) }
     ensures made { IfOk result (IsMadeFor spec.now) }
     ensures refused { IfErr result (IsRefusedSpec spec.now) }

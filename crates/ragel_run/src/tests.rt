@@ -438,14 +438,44 @@ const NO_INSTANCE: Row = Row {
     ..EMPTY
 };
 
-const NOT_BUILT: Row = Row {
+const EMPTY_TOKEN: Row = Row {
     files: &[
-        ("m.rl", "%%{ machine m; main := |* 'a'; *|; }%%"),
+        (
+            "m.rl",
+            "%%{ machine m; action A { } main := |* 'a'* => A; *|; }%%",
+        ),
         ("t", "open s\npiece s \"ab\"\nend s\n"),
     ],
     status: Status::Source,
-    err: "m.rl:1:24: F20 not yet\n",
+    err: "m.rl:1:40: F12 zero token\n",
     ..EMPTY
+};
+
+const TOKENS: Row = Row {
+    files: &[
+        (
+            "m.rl",
+            "%%{ machine m; action A { } action B { } main := |* 'a' => A; 'aab' => B; *|; }%%",
+        ),
+        (
+            "t",
+            "open s\npiece s \"a\"\npiece s \"a\"\npiece s \"a\"\npiece s \"c\"\nend s\n",
+        ),
+    ],
+    out: "s token A 2 0 1\ns token A 3 1 2\ns token A 3 2 3\ns stop error 3\ns end error 3\n",
+    ..RAN
+};
+
+const KEYWORDS: Row = Row {
+    files: &[
+        (
+            "m.rl",
+            "%%{ machine m; action kw { } action id { } main := |* 'if' => kw; [a-z]+ => id; ' '; *|; }%%",
+        ),
+        ("t", "open s\npiece s \"if ifx\"\nend s\n"),
+    ],
+    out: "s token kw 2 0 2\ns token id 6 3 6\ns end final 6\n",
+    ..RAN
 };
 
 const TOO_DEEP: Row = Row {
@@ -852,7 +882,7 @@ const FAULTS: [&Row; 9] = [
     &TOO_MANY,
     &NO_MACHINE,
     &NO_INSTANCE,
-    &NOT_BUILT,
+    &EMPTY_TOKEN,
 ];
 
 const FILES: [&Row; 7] = [
@@ -874,7 +904,7 @@ const SCRIPTS: [&Row; 6] = [
     &NO_CONDITION,
 ];
 
-const SESSIONS: [&Row; 4] = [&NO_END, &TURNS, &PICKED, &AT_ENTRY];
+const SESSIONS: [&Row; 6] = [&NO_END, &TURNS, &PICKED, &AT_ENTRY, &TOKENS, &KEYWORDS];
 
 const SECTIONS: [&Row; 6] = [
     &SPELLED,

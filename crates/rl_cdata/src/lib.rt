@@ -6,8 +6,6 @@ mod elements;
 mod fits;
 mod head;
 mod section;
-#[cfg(test)]
-mod tests;
 mod words;
 
 pub use section::data_text;

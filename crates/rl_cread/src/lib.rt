@@ -13,8 +13,6 @@ mod raw;
 mod read;
 mod said;
 mod section;
-#[cfg(test)]
-mod tests;
 mod texts;
 mod values;
 

@@ -6,6 +6,3 @@ mod read;
 
 pub use laws::{files_read_once, refusals_are_sharp};
 pub use read::read_file;
-
-#[cfg(test)]
-mod tests;

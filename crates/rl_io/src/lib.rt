@@ -10,8 +10,6 @@ mod mem_source;
 mod mem_store;
 mod outside;
 mod streams;
-#[cfg(test)]
-mod tests;
 
 pub use file_store::FileStore;
 pub use mem_sink::MemSink;

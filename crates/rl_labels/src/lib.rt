@@ -6,8 +6,6 @@ pub mod laws;
 mod lists;
 pub mod priors;
 pub mod stamped;
-#[cfg(test)]
-mod tests;
 mod truths;
 
 pub use carry::Carry;

@@ -23,6 +23,3 @@ pub use number::{count, signed};
 pub use regular::regular_leaf;
 pub use rl_draft::{Item, Leaf};
 pub use set::set_leaf;
-
-#[cfg(test)]
-mod tests;

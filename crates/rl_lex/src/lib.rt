@@ -21,6 +21,3 @@ pub use parts::split;
 pub use reader::tokens;
 pub use rl_grammar::{ReadFault, Token, TokenKind};
 pub use rl_lexical::{Block, Part};
-
-#[cfg(test)]
-mod tests;

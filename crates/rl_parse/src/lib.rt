@@ -13,6 +13,3 @@ mod stop;
 mod words;
 
 pub use parser::parse;
-
-#[cfg(test)]
-mod tests;

@@ -16,6 +16,3 @@ pub use laws::{
 pub use lines::{push_call_line, push_end_line, push_left_line, push_stop_line};
 pub use look_ups::LookUps;
 pub use script::{Event, Line, Script, ScriptFault};
-
-#[cfg(test)]
-mod tests;

@@ -8,8 +8,6 @@ mod lists;
 mod picks;
 mod runner;
 mod state;
-#[cfg(test)]
-mod tests;
 mod turns;
 
 pub use runner::Runner;

@@ -12,4 +12,5 @@ mod quoted;
 mod reading;
 
 pub use admission::admit;
+pub use numbers::number_of;
 pub use reading::read_script;

@@ -6,7 +6,5 @@ mod copies;
 mod lists;
 mod shares;
 mod tables;
-#[cfg(test)]
-mod tests;
 
 pub use tables::upgrade;

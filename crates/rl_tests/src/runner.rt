@@ -1,8 +1,8 @@
 // Two machines, each run over a text that comes in two pieces.
 ghost use Rattle.std.specs.Prelude.{◌<◌, length};
 
-use crate::Runner;
 use rl_run::{Answer, Call, CallKind, Outcome, Settings, Stop, Verdict};
+use rl_runner::Runner;
 use rl_tables::{Arrays, Tables};
 use rl_types::{List, Memory, Name};
 use std::alloc::{AllocError, Global};

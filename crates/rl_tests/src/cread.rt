@@ -1,6 +1,6 @@
 // The section of a small machine, and changes of it.
-use crate::{TableFault, read_tables};
 use rl_arrays::{ArrayName, BadValue};
+use rl_cread::{TableFault, read_tables};
 use std::alloc::{AllocError, Global};
 use std::test::Fail;
 

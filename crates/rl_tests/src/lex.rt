@@ -1,6 +1,6 @@
 ghost use Rattle.std.specs.Prelude.{◌≤◌, length};
 
-use crate::{Part, ReadFault, TokenKind, split, tokens};
+use rl_lex::{Part, ReadFault, TokenKind, split, tokens};
 use rl_types::{Fault, FaultKind, List};
 use std::alloc::Global;
 use std::test::Fail;

@@ -1,4 +1,4 @@
-use crate::{
+use rl_leaves::{
     BuiltIn, Item, KeyFault, Leaf, LeafFault, built_in_leaf, built_in_named, character_key, count,
     is_built_in, key_leaf, literal_leaf, range_leaf, regular_leaf, set_leaf, signed,
 };

@@ -1,8 +1,8 @@
 // Two pieces go through a window with room for four bytes.
 ghost use Rattle.rl_window.specs.WindowValue.{IsWidth};
 
-use crate::Window;
 use rl_types::Memory;
+use rl_window::Window;
 use std::alloc::Global;
 use std::test::Fail;
 

@@ -1,8 +1,8 @@
 // A section in version 2.
-use crate::upgrade;
 use rl_cdata::data_text;
 use rl_cread::read_tables;
 use rl_tables::Tables;
+use rl_upgrade::upgrade;
 use std::alloc::Global;
 use std::test::Fail;
 

@@ -1,5 +1,5 @@
 // Each public call once, with the values of the rules in words.
-use crate::{Carry, CutFault, Prior, Priors, Stamped, Truths, cut};
+use rl_labels::{Carry, CutFault, Prior, Priors, Stamped, Truths, cut};
 use rl_types::ActionId;
 use std::test::Fail;
 

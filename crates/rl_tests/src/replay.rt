@@ -1,4 +1,4 @@
-use crate::{
+use rl_replay::{
     LookUps, answer_by_itself, push_call_line, push_end_line, push_left_line, push_stop_line,
 };
 use rl_run::{Answer, Call, CallKind, GoalBase, Pick, Statement, StatementKind, Stop, Verdict};

@@ -1,5 +1,5 @@
 // Each object once, through its trait.
-use crate::{
+use rl_io::{
     Failed, FileStore, InputSource, MemSink, MemSource, MemStore, OutputSink, Sink, SinkFault,
     Source, Store, StoreFault,
 };

@@ -1,5 +1,5 @@
 // Sections that are read are printed as they stood.
-use crate::data_text;
+use rl_cdata::data_text;
 use rl_cread::read_tables;
 use std::alloc::Global;
 use std::test::Fail;

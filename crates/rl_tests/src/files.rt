@@ -1,5 +1,5 @@
 // Small files, and the first refusals of others.
-use crate::read_file;
+use rl_files::read_file;
 use rl_grammar::ReadFault;
 use rl_grammar::syntax::Syntax;
 use rl_types::{Fault, FaultKind, List, Place};
