@@ -68,13 +68,17 @@ is_right() {
 
 # ---- examples of the page of the language
 
+# Whether the lines of an input end with that of a session that is not ended.
+is_left() { [[ ", $1" = *', left '* ]]; }
+
 # Reads the examples of a page. It calls
 #   begins KIND            where a source begins, of a block ```refused, ```run or ```original
 #   source_line NAME TEXT  for each line of the file NAME of the source
 #   is_refused LINE        for the line that is printed for a refused source, which ends it
-#   is_run INPUT LINES     for an input of a source that is run, and the lines that are printed for it
+#   is_run LINES           for an input of a source that is run: its pieces are in `pieces`, and LINES are printed for it
 read_examples() {
   local text kind= target=m.rl
+  local piece='^"(([^"\\]|\\.)*)" +(.*)$'
   while IFS= read -r text; do
     case $kind in
       '')
@@ -91,8 +95,10 @@ read_examples() {
           begins "$kind"
         elif [ "$kind" = refused ] && [[ $text =~ ^---\ ([a-z0-9]+\.rl)$ ]]; then
           target=${BASH_REMATCH[1]}
-        elif [ "$kind" != refused ] && [[ $text =~ ^\"(([^\"\\]|\\.)*)\"\ +(.*)$ ]]; then
-          is_run "${BASH_REMATCH[1]}" "${BASH_REMATCH[3]}"
+        elif [ "$kind" != refused ] && [[ $text =~ $piece ]]; then
+          pieces=()
+          while [[ $text =~ $piece ]]; do pieces+=("${BASH_REMATCH[1]}") text=${BASH_REMATCH[3]}; done
+          is_run "$text"
         else
           source_line "$target" "$text"
         fi

@@ -1,11 +1,11 @@
 #!/usr/bin/env bash
-# Rows on conditions and control statements that are too long for a page, against the program.
+# Rows on conditions, control statements and scanners that are too long for a page, against the program.
 #
 #   tests/control.sh
 #
 # Eight conditions make too many cells; a character that is given back again and again stops the session, and so does a call
-# too many. The status is 1 where the program prints something else, and 0 where it does not or nothing could be run.
-# RAGEL_RUN names another program than bin/ragel-run.
+# too many, and a token that does not end. The status is 1 where the program prints something else, and 0 where it does not or
+# nothing could be run. RAGEL_RUN names another program than bin/ragel-run.
 . "$(dirname "${BASH_SOURCE[0]}")/common.sh"
 set_up
 wrong=0 good=0
@@ -43,6 +43,18 @@ row 'nothing to return to' "%%{ machine m; action back { fret; } main := 'r' @ba
 
 printf 's do jump 0 exec 5\ns stop past-end 5\ns end error 5\n' >"$work/want"
 row 'past the end' "%%{ machine m; action jump { fexec p + 5; } main := any* \$jump; }%%" a 0 ''
+
+letters=$(printf 'a%.0s' {1..65535})
+printf 's token word 65535 0 65535\ns end final 65536\n' >"$work/want"
+row 'a token as long as may be' "%%{ machine m; action word { } main := |* [a-z]+ => word; ' '; *|; }%%" "$letters " 0 ''
+
+printf 's stop overlong 65536\ns end error 65536\n' >"$work/want"
+row 'a token too long' "%%{ machine m; action word { } main := |* [a-z]+ => word; ' '; *|; }%%" "${letters}aa" 0 ''
+row 'a token that may still be longer' "%%{ machine m; action word { } main := |* [a-z]+ => word; ' '; *|; }%%" "${letters}a " 0 ''
+
+printf 's end partial 0\n' >"$work/want"
+row 'a pattern with the empty word, in a machine that does not run' \
+  "%%{ machine m; main := 'a'; machine n; main := |* ''; *|; }%%" '' 0 ''
 
 say "$good rows come as they are to"
 exit "$wrong"

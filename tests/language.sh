@@ -5,9 +5,9 @@
 #
 # In a block of the page that begins with ```refused a source stands above the line that the program prints for it; in one
 # with ```run above inputs, each with the lines that it prints for them; in one with ```original too, where only the lines
-# marked with `here` are looked at. It runs the program on each source and wants exactly these lines. (Blocks ```refused today
-# are those of F20, which change as the language grows; they are not looked at.) The status is 1 where a line is another, and
-# 0 where none is or nothing could be run. RAGEL_RUN names another program than bin/ragel-run.
+# marked with `here` are looked at. An input is one piece or several, and is ended, unless its lines end with `left`. It runs the
+# program on each source and wants exactly these lines. The status is 1 where a line is another, and 0 where none is or nothing
+# could be run. RAGEL_RUN names another program than bin/ragel-run.
 . "$(dirname "${BASH_SOURCE[0]}")/common.sh"
 set_up
 refused=0 inputs=0 wrong=0 header=
@@ -23,13 +23,13 @@ source_line() {
   printf '%s\n' "$2" >>"$work/run/$1"
 }
 
-# Runs the source with the script t: its lines are then in `got`, joined, or the first line on the error output.
+# Runs the source with the script t: its lines are then in `got`, joined, with the first line on the error output.
 run_it() {
   (cd "$work/run" && exec "$program" "$1" t) </dev/null >"$work/out" 2>"$work/err"
   got=
   while IFS= read -r line; do got+="${got:+, }${line#s }"; done <"$work/out"
   first_line "$work/err"
-  got+=$line
+  got+=${line/#whole.rl:/m.rl:}
 }
 
 compare() {
@@ -47,10 +47,14 @@ is_refused() {
 }
 
 is_run() {
-  local want=$2
+  local want=$1 piece
   case $want in 'original '*) return ;; 'here '*) want=${want#here}; want=${want#"${want%%[! ]*}"} ;; esac
   { cat "$work/run/m.rl"; printf '}%%%%\n'; } >"$work/run/whole.rl"
-  printf 'open s\npiece s "%s"\nend s\n' "$1" >"$work/run/t"
+  {
+    printf 'open s\n'
+    for piece in "${pieces[@]}"; do printf 'piece s "%s"\n' "$piece"; done
+    is_left "$want" || printf 'end s\n'
+  } >"$work/run/t"
   run_it whole.rl
   inputs=$((inputs + 1))
   compare "$want"
