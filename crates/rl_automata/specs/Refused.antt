@@ -4,6 +4,7 @@ use Rattle.std.specs.Ordering.{nat_cmp, bool_cmp}
 use Rattle.std.specs.Cmp.Lexicographic.{slice_cmp}
 use Rattle.std.specs.List.{list_any}
 use Rattle.std.specs.Option.{option_map}
+use Rattle.rl_types.specs.Limits.{most_cells, most_configurations}
 use Rattle.rl_types.specs.declared.numbers.Letter.{Letter}
 use Rattle.rl_types.specs.declared.alphabet.Alphabet.{Alphabet}
 use Rattle.rl_types.specs.Alphabet.{keys_of}
@@ -114,11 +115,11 @@ first_empty (p ∷ ps) k = or_later ((auto p.tree k.0).final (auto p.tree k.0).s
 
 -- L6: too many configurations
 abbrev pub HasTooMany : Site → Type 0
-HasTooMany x = HasMore (site_auto x) 32767
+HasTooMany x = HasMore (site_auto x) most_configurations
 
 -- L8: too many cells
 abbrev pub HasTooManyCells : Alphabet → Site → Type 0
-HasTooManyCells alphabet x = HasMoreCells (site_auto x) (site_width alphabet x) 4194304
+HasTooManyCells alphabet x = HasMoreCells (site_auto x) (site_width alphabet x) most_cells
 
 -- F15: a cycle of priorities
 abbrev pub HasCycle : Site → Type 0

@@ -1,6 +1,7 @@
 -- How the cells of an expression's configurations are counted.
 use Rattle.std.specs.Prelude.{◌≡◌, ℕ, ◌*◌, ◌/◌, ◌^◌, ◌≤◌, ℤ, List, length, ◌↔◌}
 use Rattle.std.specs.Ordering.{nat_cmp}
+use Rattle.rl_types.specs.Limits.{most_cells}
 use Rattle.rl_types.specs.declared.alphabet.Alphabet.{Alphabet}
 use Rattle.rl_types.specs.KeyRange.{Range}
 use Rattle.rl_sets.specs.Sets.{In, set_of}
@@ -25,4 +26,4 @@ pub record AreCells (alphabet : Alphabet) (all : List (List Range)) (asked : Lis
 
 -- how many configurations have no more than 4,194,304 cells together
 abbrev pub most_of : Cells → ℕ
-most_of c = 4194304 / (c.classes * 2 ^ length c.conditions.items)
+most_of c = most_cells / (c.classes * 2 ^ length c.conditions.items)

@@ -1,6 +1,7 @@
 -- Unions of many operands, built from all operands at once.
 use Rattle.std.specs.Prelude.{◌≡◌, ℕ, ◌≤◌, List, [], ◌∷◌, ◌++◌, Option, Result, MatchResult, IfSome, Vec}
 use Rattle.std.specs.declared.alloc.Global.{Global}
+use Rattle.rl_types.specs.Limits.{most_nodes}
 use Rattle.rl_types.specs.declared.alphabet.Alphabet.{Alphabet}
 use Rattle.rl_automata.specs.Nodes as N
 use Rattle.rl_automata.specs.Nodes.{Node}
@@ -94,7 +95,7 @@ pub record AreSums (alphabet : Alphabet) (n : ℕ) (t : Node) (s : Sums) : Type 
   pub fit : AllFit alphabet n t
 
 pub record AreSmallSums (s : Sums) : Type 0 where
-  pub nodes : s.nodes ≤ 100000
+  pub nodes : s.nodes ≤ most_nodes
   pub ranges : range_count s.cells.sets.items ≤ 25600000
 
 -- the sums of an expression, unless they do not fit one of them

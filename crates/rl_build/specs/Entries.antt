@@ -1,5 +1,6 @@
 -- What building the entries of a specification gives.
 use Rattle.std.specs.Prelude.{◌≡◌, ◌≢◌, ℕ, ◌+◌, ◌<◌, ◌≤◌, List, [], ◌∷◌, length, sum_by, Some, IfSome}
+use Rattle.rl_types.specs.Limits.{most_configurations, most_nodes}
 use Rattle.rl_types.specs.declared.alphabet.Alphabet.{Alphabet}
 use Rattle.rl_automata.specs.Scans.{Pattern, Root, Plain, Scanner}
 use Rattle.rl_automata.specs.Sites.{RootMarks, IsRootHonest, root_sites}
@@ -26,7 +27,7 @@ use Rattle.rl_build.specs.Trees.{cause_of, AreAccepted, ranges_in, wrong_numbers
 -- patterns that are together not too large
 pub record ArePatternsFit (ps : List Pattern) : Type 0 where
   pub some : ps ≢ []
-  pub nodes : sum_by (λ (p : Pattern). size_of p.tree) ps + 1 ≤ 100000
+  pub nodes : sum_by (λ (p : Pattern). size_of p.tree) ps + 1 ≤ most_nodes
   pub ranges : sum_by (λ (p : Pattern). ranges_in p.tree) ps ≤ 25600000
   pub conditions : sum_by (λ (p : Pattern). wrong_numbers p.tree) ps ≡ 0
 
@@ -67,7 +68,7 @@ pub record IsEntryBuilt (alphabet : Alphabet) (x : Root) (m : EntryFsm) : Type 0
   pub machine : IsMachineOf x m
   pub tests : (k : RootMarks x) × IsRootHonest x k
   pub accepted : (k : RootMarks x) → IsRootHonest x k → AreAccepted alphabet (root_sites x k)
-  pub few : states_of m ≤ 32767
+  pub few : states_of m ≤ most_configurations
 
 -- the patterns of a scanner; an expression has none
 abbrev pub patterns_in : Root → List Pattern

@@ -1,5 +1,6 @@
 -- When a node of an expression has a machine, and why it has none.
 use Rattle.std.specs.Prelude.{ℕ, ◌<◌, ◌≤◌, List, [], ◌++◌, Result, MatchResult}
+use Rattle.rl_types.specs.Limits.{most_configurations}
 use Rattle.rl_automata.specs.Nodes as N
 use Rattle.rl_automata.specs.Nodes.{Node}
 use Rattle.rl_automata.specs.Marks.{HasMarks}
@@ -39,8 +40,8 @@ IsMadeFor t most r = MatchResult r (Accepts t most) (Fails t most)
 
 -- the fault that so many states are too many, where there may be `most`
 abbrev pub IsOver : ℕ → ℕ → BuildFault → Type 0
-IsOver states most L6 = 32767 < states
-IsOver states most L8 = (states ≤ 32767) × (most < states)
+IsOver states most L6 = most_configurations < states
+IsOver states most L8 = (states ≤ most_configurations) × (most < states)
 IsOver states most (F12 i) = ⊥
 IsOver states most F15 = ⊥
 IsOver states most Memory = ⊥

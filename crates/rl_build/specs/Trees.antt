@@ -1,5 +1,6 @@
 -- What building an expression gives.
 use Rattle.std.specs.Prelude.{◌≡◌, ℕ, ◌+◌, ◌<◌, ◌≤◌, ◌&&◌, cond, nat_le, List, length, Option, Some, None, Result, MatchResult}
+use Rattle.rl_types.specs.Limits.{most_configurations, most_nodes}
 use Rattle.rl_types.specs.declared.alphabet.Alphabet.{Alphabet}
 use Rattle.rl_sets.specs.Sets.{In}
 use Rattle.rl_automata.specs.Nodes as N
@@ -43,7 +44,7 @@ pub record IsBuilt (alphabet : Alphabet) (t : Node) (b : Built) : Type 0 where
   pub stands : StandsFor t b.machine
   pub tests : HasMarks t
   pub accepted : (k : Marks t) → AreHonest t k → AreAccepted alphabet (sites t k)
-  pub few : length b.machine.states ≤ 32767
+  pub few : length b.machine.states ≤ most_configurations
   pub cells : AreCells alphabet (sets_in t) (conditions_in t) b.cells
   pub count : b.nodes ≡ size_of t
 
@@ -104,19 +105,19 @@ wrong_numbers (N.When a c) = wrong_number c + wrong_numbers a
 
 -- an expression of a well-formed specification
 pub record IsFit (t : Node) : Type 0 where
-  pub nodes : size_of t ≤ 100000
+  pub nodes : size_of t ≤ most_nodes
   pub ranges : ranges_in t ≤ 25600000
   pub conditions : wrong_numbers t ≡ 0
 
 -- the same of two expressions and an operator on them
 pub record AreFit (s t : Node) : Type 0 where
-  pub nodes : size_of s + size_of t + 1 ≤ 100000
+  pub nodes : size_of s + size_of t + 1 ≤ most_nodes
   pub ranges : ranges_in s + ranges_in t ≤ 25600000
   pub conditions : wrong_numbers s + wrong_numbers t ≡ 0
 
 pub record IsSmall (b : Built) : Type 0 where
-  pub nodes : b.nodes ≤ 100000
+  pub nodes : b.nodes ≤ most_nodes
   pub ranges : range_count b.cells.sets.items ≤ 25600000
 
 abbrev pub IsSmallAnswer : Result Built Refused → Type 0
-IsSmallAnswer r = MatchResult r IsSmall (λ (x : Refused). x.node ≤ 100000)
+IsSmallAnswer r = MatchResult r IsSmall (λ (x : Refused). x.node ≤ most_nodes)

@@ -18,11 +18,8 @@ use crate::walk::both;
 use rl_automata::{Label, Tree};
 use rl_fsm::Fsm;
 use rl_ops::{BuildFault, or};
-use rl_types::{Alphabet, Memory};
+use rl_types::{Alphabet, MOST_CONFIGURATIONS, Memory};
 use std::alloc::Global;
-
-// How many configurations a node may have.
-const MOST: u32 = 32_767;
 
 // What the operands of a union have together.
 #[derive(Drop)]
@@ -105,10 +102,10 @@ fn few_united(alloc: Global, operands: &[Built]) -> Result<Fsm, BuildFault>
     let Some((b, last)) = behind.split_first() else {
         unreachable!()
     };
-    let front = or(alloc, &a.machine, &b.machine, MOST)?;
+    let front = or(alloc, &a.machine, &b.machine, MOST_CONFIGURATIONS)?;
     match last.split_first() {
         None => Ok(front),
-        Some((c, _)) => or(alloc, &front, &c.machine, MOST),
+        Some((c, _)) => or(alloc, &front, &c.machine, MOST_CONFIGURATIONS),
     }
 }
 
@@ -123,7 +120,7 @@ fn united(alloc: Global, operands: &[Built]) -> Result<Fsm, BuildFault>
     let (left, right) = operands.split_at(operands.len() / 2);
     let left = united(alloc, left)?;
     let right = united(alloc, right)?;
-    or(alloc, &left, &right, MOST)
+    or(alloc, &left, &right, MOST_CONFIGURATIONS)
 }
 
 // What an operand has.
@@ -199,7 +196,7 @@ fn at_once(alloc: Global, alphabet: Alphabet, t: &Tree, operands: &[Built]) -> O
         return None;
     };
     let states = machine.states();
-    if states > MOST {
+    if states > MOST_CONFIGURATIONS {
         return None;
     }
     match sums_of(alloc, alphabet, t, operands, states) {

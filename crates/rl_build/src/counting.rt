@@ -10,7 +10,7 @@ ghost use Rattle.rl_build.specs.Cells.{AreCells, AreCounted, most_of};
 use crate::cells::{Cells, KeySet};
 use crate::leaves::{copied, copied_numbers, one_set, push, put_in_place};
 use rl_classes::Segments;
-use rl_types::{Alphabet, KeyRange, Memory};
+use rl_types::{Alphabet, KeyRange, MOST_CELLS, Memory};
 use std::alloc::Global;
 
 // Whether the two sets have the same ranges.
@@ -202,7 +202,7 @@ pub fn copied_cells(alloc: Global, cells: &Cells) -> Result<Cells, Memory>
     })
 }
 
-// How many configurations have no more than 4,194,304 cells together.
+// How many configurations have no more cells together than there may be.
 pub fn most(cells: &Cells) -> u32
     ensures { result ≡ most_of cells.now }
 {
@@ -211,5 +211,5 @@ pub fn most(cells: &Cells) -> u32
         return 0;
     }
     let width = u64::from(cells.classes) << conditions;
-    (4_194_304 / width) as u32
+    (u64::from(MOST_CELLS) / width) as u32
 }

@@ -1,5 +1,6 @@
 // The machines of a specification's entries.
 ghost use Rattle.std.specs.Prelude.{◌≡◌, ◌+◌, ◌<◌, ◌≤◌, ◌++◌, ◌∷◌, [], length, Some, IfOk, IfErr, IfSome, OnOk, MatchResult, All};
+ghost use Rattle.rl_types.specs.Limits.{most_configurations};
 ghost use Rattle.rl_automata.specs.Nodes.{node_of};
 ghost use Rattle.rl_automata.specs.Scans.{Plain};
 ghost use Rattle.rl_fsm.specs.Roots.{states_in, states_of};
@@ -108,7 +109,7 @@ fn add_entry(
     root: &mut RootFsm,
 ) -> Result<(), BuildRefusal>
     requires ready { IsReadyEntry entry.now }
-    requires room { states_in root.old + 32767 ≤ 2147483646 }
+    requires room { states_in root.old + most_configurations ≤ 2147483646 }
     ensures { MatchResult result (λ _. (m : EntryFsm) × IsEntryBuilt alphabet (root_of entry.now.root) m × (root.new ≡ root.old ++ m ∷ [])) (IsEntryRefused alphabet entry.now) }
 {
     match machine_of(alloc, alphabet, &entry.root) {

@@ -1,5 +1,6 @@
 // The machine of one node, of those of its operands.
 ghost use Rattle.std.specs.Prelude.{◌≤◌, IfOk, MatchOption};
+ghost use Rattle.rl_types.specs.Limits.{most_configurations};
 ghost use Rattle.rl_automata.specs.declared.tree.Label.{Label};
 ghost use Rattle.rl_automata.specs.declared.tree.Label.TheVariants as L;
 ghost use Rattle.rl_automata.specs.Marks.{HasMarks};
@@ -15,7 +16,7 @@ use rl_embed::{How, embed_actions, embed_priors};
 use rl_fsm::Fsm;
 use rl_labels::Prior;
 use rl_ops::{BuildFault, and, cat, minus, or, star};
-use rl_types::Memory;
+use rl_types::{MOST_CONFIGURATIONS, Memory};
 use std::alloc::Global;
 
 // The machine of an operator of two operands.
@@ -59,9 +60,9 @@ pub fn labelled(alloc: Global, a: Fsm, how: How, label: Label) -> Result<Fsm, Me
 
 // The fault of a machine of so many states, if these are too many.
 fn fault_of(states: u32, most: u32) -> Option<BuildFault>
-    ensures { MatchOption result ((states ≤ 32767) × (states ≤ most)) (IsOver states most) }
+    ensures { MatchOption result ((states ≤ most_configurations) × (states ≤ most)) (IsOver states most) }
 {
-    if states > 32_767 {
+    if states > MOST_CONFIGURATIONS {
         return Some(BuildFault::L6);
     }
     if states > most {

@@ -1,5 +1,6 @@
 // Scanners: the machines of their patterns, side by side.
 ghost use Rattle.std.specs.Prelude.{◌≡◌, ◌≤◌, List, IfOk, MatchResult, flat_map, map};
+ghost use Rattle.rl_types.specs.Limits.{most_nodes};
 ghost use Rattle.rl_types.specs.declared.alphabet.Alphabet.{Alphabet};
 ghost use Rattle.rl_automata.specs.Nodes.{Node};
 ghost use Rattle.rl_automata.specs.Refused.{sets_in, conditions_in};
@@ -42,7 +43,7 @@ pub struct Side {
 
 // The patterns and one more, of its answer.
 fn with_pattern(row: Row, answer: Result<Built, Refused>) -> Result<Row, Refused>
-    requires few { row.nodes ≤ 100000 }
+    requires few { row.nodes ≤ most_nodes }
     requires small { IsSmallAnswer answer }
     ensures { (alphabet : Alphabet) (ps : List scans.Pattern) (p : scans.Pattern) → IsRow alphabet ps row → IsAnswer alphabet p.tree answer → IsRowWith alphabet ps p result }
 {

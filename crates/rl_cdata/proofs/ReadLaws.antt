@@ -57,7 +57,7 @@ lines_at xs ys =
     ∙ take_behind (split xs) (split ys) (length (split ys) - 1)
 
 -- lines in front of a text are its first ones
-lines_front : (ls : List (List ℕ)) (rest : List ℕ) → AllByRecursion (Lacks 10) ls → lines_of (flat_map line_text ls ++ rest) ≡ ls ++ lines_of rest
+pub lines_front : (ls : List (List ℕ)) (rest : List ℕ) → AllByRecursion (Lacks 10) ls → lines_of (flat_map line_text ls ++ rest) ≡ ls ++ lines_of rest
 lines_front [] rest h = refl
 lines_front (l ∷ ls) rest h =
     ap lines_of (append_assoc (line_text l) (flat_map line_text ls) rest ∙ append_assoc l (10 ∷ []) (flat_map line_text ls ++ rest))
@@ -66,7 +66,7 @@ lines_front (l ∷ ls) rest h =
     ∙ ap (λ ps. l ∷ ps) (lines_front ls rest h.1)
 
 -- text that ends with a line has its own lines, whatever stands behind it
-lines_behind : (before rest : List ℕ) → EndsLine before → lines_of (before ++ rest) ≡ lines_of before ++ lines_of rest
+pub lines_behind : (before rest : List ℕ) → EndsLine before → lines_of (before ++ rest) ≡ lines_of before ++ lines_of rest
 lines_behind before rest (inl e) = ap (λ t. lines_of (t ++ rest)) e ∙ sym (ap (λ t. lines_of t ++ lines_of rest) e)
 lines_behind before rest (inr h) =
     ap (λ t. lines_of (t ++ rest)) h.1
@@ -92,7 +92,7 @@ drop_front (l ∷ ls) more = drop_front ls more
 
 -- ---- the section
 
-lines_are : (a : Arrays) → section_lines a ≡ lines_with a (entries a)
+pub lines_are : (a : Arrays) → section_lines a ≡ lines_with a (entries a)
 unfolding section_lines
 lines_are a = refl
 
@@ -107,7 +107,7 @@ text_lines before behind a p e =
     ∙ ap (λ ps. lines_of before ++ ps) (lines_front (section_lines a) behind (subst (AllByRecursion (Lacks 10)) (sym (lines_are a)) (lines_lack a (entries a) p)))
 
 -- between host texts the section is read, where the text before it has none
-is_read : (machine : Option (List ℕ)) (before behind : List ℕ) (a : Arrays) → Valid a → HasNumbers a → EndsLine before → HasNone machine before
+pub is_read : (machine : Option (List ℕ)) (before behind : List ℕ) (a : Arrays) → Valid a → HasNumbers a → EndsLine before → HasNone machine before
     → IfSome machine (λ name. name ≡ a.name) → IsRead machine (before ++ (section a ++ behind)) a
 is_read machine before behind a valid numbers ends none sought =
     let printable = valid_prints a valid numbers in

@@ -7,8 +7,8 @@ ghost use Rattle.rl_cdata.specs.Texts.{texts, line_of};
 
 use crate::elements::{Elements, elements_of, push_elements};
 use crate::head::are_shared;
-use crate::words::{c_type, word};
 use rl_arrays::{ArrayName, Arrays, ORDER};
+use rl_cread::{array_type, array_word};
 use std::alloc::AllocError;
 
 /// Writes what stands in the line of an array before its elements.
@@ -16,11 +16,11 @@ fn push_front(text: &mut Vec<u8>, name: &[u8], array: ArrayName) -> Result<(), A
     ensures { OnOk result (text.new.items ≡ text.old.items ++ section.array_front name.now array) }
 {
     text.extend_from_slice(b"static ")?;
-    text.extend_from_slice(c_type(array))?;
+    text.extend_from_slice(array_type(array))?;
     text.extend_from_slice(b" _")?;
     text.extend_from_slice(name)?;
     text.extend_from_slice(b"_")?;
-    text.extend_from_slice(word(array))?;
+    text.extend_from_slice(array_word(array))?;
     text.extend_from_slice(b"[] = { ")
 }
 

@@ -43,8 +43,8 @@ fn each_fits(a: &Arrays, arrays: &[ArrayName])
     }
 }
 
-/// The numbers of all arrays fit, and so do those of the lines before them.
-pub(crate) fn all_fit(a: &Arrays)
+/// The numbers of all arrays fit, and so do those of the lines before them. It takes no memory.
+pub fn all_fit(a: &Arrays)
     ensures { HasNumbers a.now }
 {
     let _before = (a.start, a.first_final, a.alphabet);

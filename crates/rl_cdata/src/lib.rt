@@ -6,6 +6,6 @@ mod elements;
 mod fits;
 mod head;
 mod section;
-mod words;
 
+pub use fits::all_fit;
 pub use section::data_text;

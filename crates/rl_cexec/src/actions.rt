@@ -5,7 +5,7 @@ ghost use Rattle.rl_arrays.specs.Words.{natural, number_at};
 ghost use Rattle.rl_arrays.specs.Lists.{members};
 ghost use Rattle.rl_cexec.specs.Texts as texts;
 
-use crate::bytes::is_text;
+use crate::names::is_text;
 use rl_arrays::Arrays;
 use rl_model::ActionDef;
 use std::alloc::{AllocError, Global};

@@ -3,18 +3,15 @@
 
 mod action;
 mod actions;
-mod bytes;
 mod cases;
 mod conditions;
 mod has;
 mod line;
-mod mode;
 mod names;
 mod rows;
 mod statements;
 mod texts;
 mod values;
-mod words;
 
 pub use action::action_text;
 pub use rows::texts_are_printed;

@@ -5,10 +5,17 @@ ghost use Rattle.std.specs.Str.{bytes_eq};
 ghost use Rattle.rl_lexical.specs.Words as words;
 ghost use Rattle.rl_cexec.specs.Names as names;
 
-use crate::bytes::{cut_word, in_word, is_text};
+use rl_bytes::{cut_word, in_word};
 use rl_model::Frame;
 use rl_types::{Code, Name};
 use std::alloc::AllocError;
+
+/// Whether the bytes are these.
+pub(crate) fn is_text(bytes: &[u8], text: &[u8]) -> bool
+    ensures { result ≡ bytes_eq bytes.now text.now }
+{
+    bytes == text
+}
 
 /// Writes a text of the source in one line.
 fn push_one_line(text: &mut Vec<u8>, source: &[u8]) -> Result<(), AllocError>

@@ -7,12 +7,10 @@ ghost use Rattle.rl_lexical.specs.declared.mode.Mode.TheVariants as m;
 ghost use Rattle.rl_cexec.specs.Names.{filled};
 ghost use Rattle.rl_cexec.specs.Code as code;
 
-use crate::bytes::{behind_blanks, cut_word, in_word};
-use crate::mode::{is_outside, mode_behind};
 use crate::names::push_filled;
 use crate::values::{push_first, push_state, push_value, push_values, starts_word};
-use crate::words::code_word;
 use rl_arrays::Arrays;
+use rl_bytes::{behind_blanks, code_word, cut_word, in_word, is_outside, mode_behind};
 use rl_code::CodeWord;
 use rl_lexical::Mode;
 use rl_model::Frame;

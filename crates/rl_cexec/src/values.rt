@@ -7,12 +7,10 @@ ghost use Rattle.rl_code.specs.Texts.{first_word, is_outside};
 ghost use Rattle.rl_cexec.specs.Names.{filled};
 ghost use Rattle.rl_cexec.specs.Code as code;
 
-use crate::bytes::{behind_blanks, cut_word, in_word, is_text};
-use crate::mode::{is_outside, mode_behind};
-use crate::names::push_filled;
-use crate::words::code_word;
+use crate::names::{is_text, push_filled};
 use itoa::Buffer;
 use rl_arrays::Arrays;
+use rl_bytes::{behind_blanks, code_word, cut_word, in_word, is_outside, mode_behind};
 use rl_code::CodeWord;
 use rl_lexical::Mode;
 use rl_model::Frame;

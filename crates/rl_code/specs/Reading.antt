@@ -3,6 +3,7 @@ use Rattle.std.specs.Prelude.{◌≡◌, ℕ, ◌+◌, Bool, true, false, ◌&&�
 use Rattle.std.specs.Option.{option_map, option_and_then, option_map_or}
 use Rattle.std.specs.List.{cons_option}
 use Rattle.std.specs.Str.{bytes_eq}
+use Rattle.rl_types.specs.Limits.{most_outer_statements}
 use Rattle.rl_types.specs.declared.numbers.EntryId.{EntryId}
 use Rattle.rl_run.specs.declared.statements.Statement.{Statement}
 use Rattle.rl_lexical.specs.declared.mode.Mode.TheVariants as m
@@ -95,7 +96,7 @@ up_to_end (s ∷ ss) = if ends s then s ∷ [] else s ∷ up_to_end ss
 
 -- how many bytes stand before the fifth of them
 abbrev pub fifth_outer : List Said → Option ℕ
-fifth_outer said = option_map (λ (s : Said). s.from) (slice_get (up_to_end (filter is_outer said)) 4)
+fifth_outer said = option_map (λ (s : Said). s.from) (slice_get (up_to_end (filter is_outer said)) most_outer_statements)
 
 -- ---- code that is read
 

@@ -4,6 +4,7 @@ ghost use Rattle.rl_arrays.specs.Section as section;
 ghost use Rattle.rl_cread.specs.Lines.{label_word};
 
 use crate::said::Label;
+use crate::words::{array_type, array_word};
 use rl_arrays::ArrayName;
 use std::alloc::{AllocError, Global};
 
@@ -14,76 +15,6 @@ pub(crate) fn label_text(label: Label) -> &'static [u8]
         Label::Start => b"start",
         Label::FirstFinal => b"first_final",
         Label::Alphabet => b"alphabet",
-    }
-}
-
-fn word(array: ArrayName) -> &'static [u8]
-    ensures { result.now ≡ section.word array }
-{
-    match array {
-        ArrayName::Actions => b"actions",
-        ArrayName::KeyOffsets => b"key_offsets",
-        ArrayName::TransKeys => b"trans_keys",
-        ArrayName::SingleLengths => b"single_lengths",
-        ArrayName::RangeLengths => b"range_lengths",
-        ArrayName::CellOffsets => b"cell_offsets",
-        ArrayName::CellUses => b"cell_uses",
-        ArrayName::CellAsks => b"cell_asks",
-        ArrayName::CellEntries => b"cell_entries",
-        ArrayName::TransTargs => b"trans_targs",
-        ArrayName::TransLists => b"trans_lists",
-        ArrayName::FromLists => b"from_lists",
-        ArrayName::ToLists => b"to_lists",
-        ArrayName::EofLists => b"eof_lists",
-        ArrayName::ErrorLists => b"error_lists",
-        ArrayName::AcceptLists => b"accept_lists",
-        ArrayName::StateKinds => b"state_kinds",
-        ArrayName::Homes => b"homes",
-        ArrayName::ActionNames => b"action_names",
-        ArrayName::StmtFirsts => b"stmt_firsts",
-        ArrayName::StmtCounts => b"stmt_counts",
-        ArrayName::StmtKinds => b"stmt_kinds",
-        ArrayName::StmtOuter => b"stmt_outer",
-        ArrayName::StmtArgs => b"stmt_args",
-        ArrayName::StmtBases => b"stmt_bases",
-        ArrayName::CondNames => b"cond_names",
-        ArrayName::EntryNames => b"entry_names",
-        ArrayName::EntryStates => b"entry_states",
-    }
-}
-
-fn ctype(array: ArrayName) -> &'static [u8]
-    ensures { result.now ≡ section.ctype array }
-{
-    match array {
-        ArrayName::Actions => b"const int",
-        ArrayName::KeyOffsets => b"const int",
-        ArrayName::TransKeys => b"const long long",
-        ArrayName::SingleLengths => b"const int",
-        ArrayName::RangeLengths => b"const int",
-        ArrayName::CellOffsets => b"const int",
-        ArrayName::CellUses => b"const int",
-        ArrayName::CellAsks => b"const int",
-        ArrayName::CellEntries => b"const int",
-        ArrayName::TransTargs => b"const int",
-        ArrayName::TransLists => b"const int",
-        ArrayName::FromLists => b"const int",
-        ArrayName::ToLists => b"const int",
-        ArrayName::EofLists => b"const int",
-        ArrayName::ErrorLists => b"const int",
-        ArrayName::AcceptLists => b"const int",
-        ArrayName::StateKinds => b"const int",
-        ArrayName::Homes => b"const int",
-        ArrayName::ActionNames => b"const char *const",
-        ArrayName::StmtFirsts => b"const int",
-        ArrayName::StmtCounts => b"const int",
-        ArrayName::StmtKinds => b"const int",
-        ArrayName::StmtOuter => b"const int",
-        ArrayName::StmtArgs => b"const int",
-        ArrayName::StmtBases => b"const int",
-        ArrayName::CondNames => b"const char *const",
-        ArrayName::EntryNames => b"const char *const",
-        ArrayName::EntryStates => b"const int",
     }
 }
 
@@ -104,7 +35,7 @@ fn push_word(front: &mut Vec<u8>, name: &[u8], array: ArrayName) -> Result<(), A
 {
     front.extend_from_slice(name)?;
     front.extend_from_slice(b"_")?;
-    front.extend_from_slice(word(array))?;
+    front.extend_from_slice(array_word(array))?;
     front.extend_from_slice(b"[] = { ")
 }
 
@@ -117,7 +48,7 @@ pub(crate) fn array_front(
     ensures { IfOk result (λ v. v.items ≡ section.array_front name.now array) }
 {
     let mut front = Vec::from_slice(alloc, b"static ")?;
-    front.extend_from_slice(ctype(array))?;
+    front.extend_from_slice(array_type(array))?;
     front.extend_from_slice(b" _")?;
     push_word(&mut front, name, array)?;
     Ok(front)

@@ -15,6 +15,8 @@ mod said;
 mod section;
 mod texts;
 mod values;
+mod words;
 
 pub use fault::TableFault;
 pub use read::read_tables;
+pub use words::{array_type, array_word};

@@ -1,5 +1,6 @@
 -- Configurations that get numbers in order of first use.
 use Rattle.std.specs.Prelude.{◌≡◌, ℕ, ◌<◌, ◌≤◌, Bool, true, false, List, [], ◌∷◌, ◌++◌, ◌⊎◌, length, map, Some, slice_get, unwrap_or}
+use Rattle.rl_types.specs.Limits.{most_configurations}
 use Rattle.rl_types.specs.declared.numbers.Letter.{Letter}
 use Rattle.rl_sets.specs.Sets.{In}
 use Rattle.rl_automata.specs.declared.moves.Move.{Move}
@@ -129,7 +130,7 @@ HasNoCauseWithin room A jams most = ¬ HasMore A room × ¬ HasMore A most × ¬
 
 -- the same of a node, which may have 32,767 configurations
 abbrev pub IsCause : {S : Type 0} → Auto S → (S → Letter → Bool) → ℕ → BuildFault → Type 0
-IsCause A jams most fault = IsCauseWithin 32767 A jams most fault
+IsCause A jams most fault = IsCauseWithin most_configurations A jams most fault
 
 abbrev pub HasNoCause : {S : Type 0} → Auto S → (S → Letter → Bool) → ℕ → Type 0
-HasNoCause A jams most = HasNoCauseWithin 32767 A jams most
+HasNoCause A jams most = HasNoCauseWithin most_configurations A jams most

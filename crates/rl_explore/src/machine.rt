@@ -12,6 +12,7 @@ use crate::number::number;
 use crate::operator::Operator;
 use crate::state::state_of;
 use rl_fsm::{Fsm, State};
+use rl_types::MOST_CONFIGURATIONS;
 use std::alloc::Global;
 
 // All states, and whether the candidates for a step are a cycle somewhere.
@@ -39,9 +40,6 @@ fn walk<O: Operator>(alloc: Global, op: &O, room: u32) -> Result<Walked, BuildFa
     }
     Ok(Walked { states, cycle })
 }
-
-/// The most configurations of a node.
-const MOST: u32 = 32_767;
 
 /// The machine of all configurations that the operator reaches, numbered in the order in which a walk from the start
 /// finds them, by ascending keys and truths (this profile). `L6` comes exactly where more than `room` configurations are
@@ -78,5 +76,5 @@ pub fn explore<O: Operator>(alloc: Global, op: &O, most: u32) -> Result<Fsm, Bui
     ensures accepted { OnOk result (HasNoCause (O.auto op.now) (O.jams op.now) most) }
     ensures refused { IfErr result (IsCause (O.auto op.now) (O.jams op.now) most) }
 {
-    explore_within(alloc, op, MOST, most)
+    explore_within(alloc, op, MOST_CONFIGURATIONS, most)
 }

@@ -1,5 +1,6 @@
 -- A text reads as one list of trees, or has one first refusal, and never both.
 use Rattle.std.proofs.Common.{◌≡◌, ℕ, ◌<◌, ◌≤◌, List, length, Result, Ok, Err, inl, inr, sym, ap, ◌∙◌, subst, arith}
+use Rattle.rl_types.specs.Limits.{most_source_bytes}
 use Rattle.rl_types.specs.declared.faults.Fault.{Fault}
 use Rattle.rl_grammar.specs.declared.read_fault.ReadFault.{ReadFault}
 use Rattle.rl_grammar.specs.declared.read_fault.ReadFault.TheVariants as reason
@@ -7,12 +8,12 @@ use Rattle.rl_grammar.specs.declared.syntax.Syntax.{Syntax}
 use Rattle.rl_grammar.specs.declared.token.Token.{Token}
 use Rattle.rl_files.proofs.TokenForms.{same_ok, err_ok}
 use Rattle.rl_files.proofs.TreeLaws.{same_trees, same_refusal, trees_or_refusal}
-use Rattle.rl_files.specs.Files.{file_tokens, most_bytes, AreTrees, FirstRefused, ReadsAs, IsRefusal}
+use Rattle.rl_files.specs.Files.{file_tokens, AreTrees, FirstRefused, ReadsAs, IsRefusal}
 
 same_err : {A : Type 0} (e f : Fault) → ◌≡◌ {A = Result A Fault} (Err e) (Err f) → e ≡ f
 same_err e f h = cc
 
-too_long_or_not : (text : List ℕ) → most_bytes < length text → length text ≤ most_bytes → ⊥
+too_long_or_not : (text : List ℕ) → most_source_bytes < length text → length text ≤ most_source_bytes → ⊥
 too_long_or_not text beyond within = omega arith
 
 module _ (number : ℕ) (text : List ℕ) where

@@ -1,6 +1,7 @@
 -- What a file reads as: its parts, the tokens of its blocks and their syntax trees, with the number of the file in each
 -- place. Each step is over the whole file before the next.
 use Rattle.std.specs.Prelude.{◌≡◌, ◌⊎◌, ℕ, ◌<◌, ◌≤◌, List, [], ◌∷◌, length, Result, Ok, Err}
+use Rattle.rl_types.specs.Limits.{most_source_bytes}
 use Rattle.rl_types.specs.declared.faults.Fault.{Fault}
 use Rattle.rl_types.specs.declared.faults.LimitKind.TheVariants.{L1}
 use Rattle.rl_grammar.specs.Grammar.{Derives}
@@ -48,13 +49,9 @@ FirstRefused e (tokens ∷ blocks) = IsRefused e tokens ⊎ ((tree : Syntax) × 
 
 -- ---- a file
 
--- the bytes of a file, at most (this profile)
-abbrev pub most_bytes : ℕ
-most_bytes = 4194304
-
 -- the file reads as these trees, one for each block
 pub record ReadsAs (number : ℕ) (text : List ℕ) (trees : List Syntax) : Type 0 where
-  pub within : length text ≤ most_bytes
+  pub within : length text ≤ most_source_bytes
   pub blocks : List (List Token)
   pub tokens : file_tokens number text ≡ Ok blocks
   pub derived : AreTrees blocks trees
@@ -66,19 +63,19 @@ abbrev pub too_long : ℕ → ReadFault
 too_long number = reason.Limit (record { kind = L1; place = record { file = number; line = 1; col = 1 } })
 
 pub record IsTooLong (number : ℕ) (text : List ℕ) (e : ReadFault) : Type 0 where
-  pub beyond : most_bytes < length text
+  pub beyond : most_source_bytes < length text
   pub is : e ≡ too_long number
 
 -- parts or tokens that are at fault
 pub record HasNoTokens (number : ℕ) (text : List ℕ) (e : ReadFault) : Type 0 where
-  pub within : length text ≤ most_bytes
+  pub within : length text ≤ most_source_bytes
   pub fault : Fault
   pub tokens : file_tokens number text ≡ Err fault
   pub is : e ≡ reason.Fault fault
 
 -- tokens that spell no tree
 pub record HasNoTrees (number : ℕ) (text : List ℕ) (e : ReadFault) : Type 0 where
-  pub within : length text ≤ most_bytes
+  pub within : length text ≤ most_source_bytes
   pub blocks : List (List Token)
   pub tokens : file_tokens number text ≡ Ok blocks
   pub refused : FirstRefused e blocks

@@ -1,5 +1,6 @@
 // The reading of one file.
 ghost use Rattle.std.specs.Prelude.{◌≡◌, ◌<◌, ◌≤◌, ◌^◌, ◌++◌, ◌∷◌, [], length, IfOk, IfErr, MatchResult};
+ghost use Rattle.rl_types.specs.Limits.{most_source_bytes};
 ghost use Rattle.rl_grammar.specs.Refusals.{Tells};
 ghost use Rattle.rl_grammar.specs.declared.read_fault.ReadFault.TheVariants as reason;
 ghost use Rattle.rl_lexical.specs.Answers.{Gives};
@@ -10,11 +11,8 @@ use rl_grammar::syntax::Syntax;
 use rl_grammar::{ReadFault, Token};
 use rl_lex::{Part, split, tokens};
 use rl_parse::parse;
-use rl_types::{Limit, LimitKind, List, Place};
+use rl_types::{Limit, LimitKind, List, MOST_SOURCE_BYTES, Place};
 use std::alloc::Global;
-
-/// How many bytes a file has at most (this profile).
-const MOST_BYTES: usize = 4_194_304;
 
 fn push<T: Drop>(list: &mut List<T>, item: T) -> Result<(), ReadFault>
     ensures { MatchResult result (λ _. list.new ≡ list.old ++ item ∷ []) (λ e. e ≡ reason.Memory) }
@@ -61,7 +59,7 @@ fn tokens_of(alloc: Global, parts: &[Part]) -> Result<List<List<Token>>, ReadFau
 
 /// The tokens of each block of a file.
 fn file_tokens(alloc: Global, text: &[u8], number: u64) -> Result<List<List<Token>>, ReadFault>
-    requires { length text.now ≤ 4194304 }
+    requires { length text.now ≤ most_source_bytes }
     ensures { Gives (file_tokens number text.now) result }
 {
     let parts = split(alloc, text, number)?;
@@ -93,7 +91,7 @@ fn trees(alloc: Global, blocks: &[List<Token>]) -> Result<List<Syntax>, ReadFaul
 
 /// The trees of a text that is short enough.
 fn file_trees(alloc: Global, text: &[u8], number: u64) -> Result<List<Syntax>, ReadFault>
-    requires { length text.now ≤ 4194304 }
+    requires { length text.now ≤ most_source_bytes }
     ensures read { IfOk result (λ trees. ReadsAs number text.now trees) }
     ensures refused { IfErr result (λ e. Explains number text.now e) }
 {
@@ -111,7 +109,7 @@ pub fn read_file(alloc: Global, text: &[u8], number: u64) -> Result<List<Syntax>
     ensures read { IfOk result (λ trees. ReadsAs number text.now trees) }
     ensures refused { IfErr result (λ e. Explains number text.now e) }
 {
-    if text.len() > MOST_BYTES {
+    if text.len() > MOST_SOURCE_BYTES {
         return Err(too_long(number));
     }
     file_trees(alloc, text, number)

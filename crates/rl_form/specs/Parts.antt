@@ -1,5 +1,6 @@
 -- What is asked of each part of a Spec.
 use Rattle.std.specs.Prelude.{◌≡◌, ◌≢◌, ℕ, ◌+◌, ◌-◌, ◌<◌, ◌≤◌, IsTrue, IfSome, List, [], map, length, sum_by, slice_get, All}
+use Rattle.rl_types.specs.Limits.{most_conditions, most_depth, most_names, most_nodes}
 use Rattle.rl_types.specs.declared.numbers.ActionId.{ActionId}
 use Rattle.rl_types.specs.declared.numbers.Place.{Place}
 use Rattle.rl_types.specs.KeyRange.{Range}
@@ -30,8 +31,8 @@ scope_of spec = record { alphabet = spec.alphabet; actions = length spec.actions
 
 -- its stamp is a stamp, and its action one of the actions
 abbrev pub IsLabel : Scope → Label → Type 0
-IsLabel scope (Action s x) = IsNumber 100000 s × IsNumber scope.actions x.0
-IsLabel scope (Prior s n v) = IsNumber 100000 s
+IsLabel scope (Action s x) = IsNumber most_nodes s × IsNumber scope.actions x.0
+IsLabel scope (Prior s n v) = IsNumber most_nodes s
 
 -- few ranges, of keys of the alphabet
 abbrev pub IsSet : Scope → List Range → Type 0
@@ -46,17 +47,17 @@ IsSound scope (N.Union a b) = IsSound scope a × IsSound scope b
 IsSound scope (N.And a b) = IsSound scope a × IsSound scope b
 IsSound scope (N.Minus a b) = IsSound scope a × IsSound scope b
 IsSound scope (N.Cat a b) = IsSound scope a × IsSound scope b
-IsSound scope (N.Star a n) = IsNumber 100000 n × IsSound scope a
+IsSound scope (N.Star a n) = IsNumber most_nodes n × IsSound scope a
 IsSound scope (N.Enter a l) = IsLabel scope l × IsSound scope a
 IsSound scope (N.Finish a l) = IsLabel scope l × IsSound scope a
 IsSound scope (N.All a l) = IsLabel scope l × IsSound scope a
 IsSound scope (N.Leave a l) = IsLabel scope l × IsSound scope a
-IsSound scope (N.Mark a class kind s x) = (IsNumber 100000 s × IsNumber scope.actions x) × IsSound scope a
+IsSound scope (N.Mark a class kind s x) = (IsNumber most_nodes s × IsNumber scope.actions x) × IsSound scope a
 IsSound scope (N.When a c) = IsNumber scope.conditions c × IsSound scope a
 
 -- an expression that is not too deep, with so many nodes, all of them sound
 pub record IsTree (scope : Scope) (n : ℕ) (t : Node) : Type 0 where
-  pub not_deep : depth_of t ≤ 2000
+  pub not_deep : depth_of t ≤ most_depth
   pub nodes : size_of t ≡ n
   pub sound : IsSound scope t
 
@@ -67,7 +68,7 @@ HasFile files place = place.file < files
 
 -- its expression is not too deep and all of it sound, the action of its token exists, and it stands in one of the files
 pub record IsPattern (scope : Scope) (p : rust_pattern.Pattern) : Type 0 where
-  pub not_deep : depth_of (node_of p.tree) ≤ 2000
+  pub not_deep : depth_of (node_of p.tree) ≤ most_depth
   pub sound : IsSound scope (node_of p.tree)
   pub token : IfSome p.token (λ (a : ActionId). IsNumber scope.actions a.0)
   pub place : HasFile scope.files p.place
@@ -84,7 +85,7 @@ IsRoot scope n (R.Scanner ps) = IsScanner scope n ps
 
 pub record IsEntry (scope : Scope) (e : rust_entry.Entry) : Type 0 where
   pub name : IsTrue (is_name e.name)
-  pub few : length e.places ≤ 100000
+  pub few : length e.places ≤ most_nodes
   pub root : IsRoot scope (length e.places) e.root
   pub places : All (HasFile scope.files) e.places
 
@@ -161,8 +162,8 @@ IsQuietRoot actions (R.Scanner ps) = All (λ (p : rust_pattern.Pattern). HasQuie
 pub record AreFew (spec : Spec) : Type 0 where
   pub some_entry : 1 ≤ length spec.entries
   pub entries : length spec.entries ≤ 65536
-  pub actions : length spec.actions ≤ 65535
-  pub conditions : length spec.conds ≤ 8
+  pub actions : length spec.actions ≤ most_names
+  pub conditions : length spec.conds ≤ most_conditions
 
 -- no two of a kind have one name, and no two conditions one action
 pub record AreApart (spec : Spec) : Type 0 where

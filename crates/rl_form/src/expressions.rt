@@ -1,5 +1,6 @@
 // The sets, stamps, actions and conditions of expressions.
 ghost use Rattle.std.specs.Prelude.{◌≡◌, ◌&&◌, ◌≤◌, ◌↔◌, IsTrue, All, length};
+ghost use Rattle.rl_types.specs.Limits.{most_nodes};
 ghost use Rattle.rl_types.specs.Alphabet.{has_key};
 ghost use Rattle.rl_automata.specs.Nodes.{node_of};
 ghost use Rattle.rl_model.specs.WellFormed.{IsNumber, IsInAlphabet};
@@ -7,7 +8,7 @@ ghost use Rattle.rl_form.specs.Parts.{IsLabel, IsSet, IsSound};
 
 use crate::scope::Scope;
 use rl_automata::{Label, Tree};
-use rl_types::{Alphabet, KeyRange};
+use rl_types::{Alphabet, KeyRange, MOST_NODES};
 
 // Whether it is the number of one of so many things, which count from 1.
 pub(crate) fn is_number(count: usize, n: u32) -> bool
@@ -17,9 +18,9 @@ pub(crate) fn is_number(count: usize, n: u32) -> bool
 }
 
 fn is_stamp(n: u32) -> bool
-    ensures { IsTrue result ↔ IsNumber 100000 n }
+    ensures { IsTrue result ↔ IsNumber most_nodes n }
 {
-    1 <= n && n <= 100_000
+    1 <= n && n <= MOST_NODES
 }
 
 // Whether the alphabet has the key.

@@ -12,7 +12,7 @@ use crate::statements::outer_statements;
 use rl_arrays::{is_action_name, is_name};
 use rl_automata::Tree;
 use rl_model::{ActionDef, Entry, Pattern, Root, Spec, Write};
-use rl_types::{ActionId, Place};
+use rl_types::{ActionId, MOST_CONDITIONS, MOST_NAMES, MOST_NODES, Place};
 
 fn has_file(files: usize, place: &Place) -> bool
     ensures { IsTrue result ↔ HasFile files place.now }
@@ -80,7 +80,7 @@ fn is_entry(scope: &Scope, e: &Entry) -> bool
     ensures { IsTrue result ↔ IsEntry scope.now e.now }
 {
     is_name(e.name.bytes())
-        && e.places.len() <= 100_000
+        && e.places.len() <= MOST_NODES as usize
         && is_root(scope, e.places.len(), &e.root)
         && have_files(scope.files, e.places.as_slice())
 }
@@ -123,8 +123,8 @@ pub(crate) fn are_few(spec: &Spec) -> bool
 {
     spec.entries.len() >= 1
         && spec.entries.len() <= 65_536
-        && spec.actions.len() <= 65_535
-        && spec.conds.len() <= 8
+        && spec.actions.len() <= MOST_NAMES as usize
+        && spec.conds.len() <= MOST_CONDITIONS
 }
 
 fn scope_of(spec: &Spec) -> Scope

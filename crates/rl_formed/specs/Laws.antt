@@ -1,5 +1,6 @@
 -- What holds of each draft, and of the entries that it is rewritten to.
 use Rattle.std.specs.Prelude.{◌≡◌, ℕ, ◌≤◌, ◌<◌, ◌^◌, IsTrue, List, [], map, length, None, Ok, All}
+use Rattle.rl_types.specs.Limits.{most_names}
 use Rattle.rl_types.specs.declared.alphabet.Alphabet.{Alphabet}
 use Rattle.rl_types.specs.declared.numbers.ActionId.{ActionId}
 use Rattle.rl_types.specs.declared.numbers.Place.{Place}
@@ -71,10 +72,10 @@ abbrev pub HasQuietPatterns : Draft → Type 0
 HasQuietPatterns draft = All (λ (m : Made). All (λ (t : Node). All (IsQuiet draft) (actions_in t)) (pattern_trees m.root)) (entries [] (meanings draft))
 
 abbrev pub HasFewActions : Draft → Type 0
-HasFewActions draft = length draft.actions ≤ 65535
+HasFewActions draft = length draft.actions ≤ most_names
 
 abbrev pub HasFewEntries : Draft → Type 0
-HasFewEntries draft = length (entries [] (meanings draft)) ≤ 65535
+HasFewEntries draft = length (entries [] (meanings draft)) ≤ most_names
 
 -- each action that an entry embeds is an action of the machine
 abbrev pub EmbedsOwnActions : Draft → Type 0

@@ -2,6 +2,7 @@
 -- scanners that are not the whole right side of an instantiation.
 use Rattle.std.specs.Prelude.{◌≡◌, ℕ, ◌+◌, ◌-◌, ◌<◌, ◌^◌, Bool, false, ◌&&◌, not, if◌then◌else◌, nat_lt, nat_le, List, [], ◌∷◌, length, take, slice_get, Option, Some, None, ◌⊎◌}
 use Rattle.std.specs.List.{All}
+use Rattle.rl_types.specs.Limits.{most_parentheses}
 use Rattle.rl_types.specs.declared.faults.FaultKind.TheVariants.{F3, F10, F11}
 use Rattle.rl_types.specs.declared.faults.LimitKind.TheVariants.{L3}
 use Rattle.rl_types.specs.declared.numbers.Place.{Place}
@@ -58,9 +59,9 @@ abbrev pub opened : ℕ → List Token → ℕ
 opened n [] = n
 opened n (t ∷ ts) = opened (opened_by n t.kind) ts
 
--- a parenthesis behind 128 open ones
+-- a parenthesis behind as many open ones as there may be
 abbrev pub too_deep : List Token → ℕ → Option ReadFault
-too_deep ts at = if is_at k.OpenParenthesis ts at && nat_le 128 (opened 0 (take at ts)) then Some (depth_limit (place_at ts at)) else None
+too_deep ts at = if is_at k.OpenParenthesis ts at && nat_le most_parentheses (opened 0 (take at ts)) then Some (depth_limit (place_at ts at)) else None
 
 -- ---- counts
 

@@ -2,6 +2,7 @@
 use Rattle.std.specs.Prelude.{◌≡◌, ◌⊎◌, ℕ, zero, suc, ◌-◌, Bool, true, false, ◌&&◌, not, List, [], ◌∷◌, ◌++◌, Option, Some, None, is_some, IsSome}
 use Rattle.std.specs.List.{list_any}
 use Rattle.std.specs.Str.{bytes_eq}
+use Rattle.rl_types.specs.Limits.{most_includes}
 use Rattle.rl_types.specs.declared.faults.FaultKind.TheVariants.{F4, F17}
 use Rattle.rl_types.specs.declared.faults.LimitKind.TheVariants.{L2}
 use Rattle.rl_types.specs.declared.numbers.Place.{Place}
@@ -144,9 +145,8 @@ Includes (suc left) held reader request old new =
 
 -- ---- a source
 
--- includes may stand 16 deep
 abbrev pub source_reader : List ℕ → Reader
-source_reader file = record { name = file; being_read = file ∷ []; number = 0; extent = extent.Whole; left = 16 }
+source_reader file = record { name = file; being_read = file ∷ []; number = 0; extent = extent.Whole; left = most_includes }
 
 abbrev pub nothing_yet : List ℕ → Unrolled
 nothing_yet file = record { files = file ∷ []; steps = []; stop = None }
@@ -154,7 +154,7 @@ nothing_yet file = record { files = file ∷ []; steps = []; stop = None }
 -- what the blocks of a source come to, where the store holds this. Where the store tells nothing, some texts stand for what
 -- it gave, or it lacked the file. The store may fail at every file
 abbrev pub Unrolls : Held → List ℕ → List Syntax → Unrolled → Type 0
-Unrolls held file blocks unrolled = Follows (Includes 16 held) (source_reader file) (located 0 blocks) None (nothing_yet file) unrolled
+Unrolls held file blocks unrolled = Follows (Includes most_includes held) (source_reader file) (located 0 blocks) None (nothing_yet file) unrolled
 
 -- ---- one end
 

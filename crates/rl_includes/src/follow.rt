@@ -13,11 +13,8 @@ use crate::turn::{current_behind, fault, turn};
 use crate::unrolled::{Stop, Unrolled};
 use rl_grammar::syntax::Syntax;
 use rl_io::Store;
-use rl_types::{FaultKind, Limit, LimitKind, List, Memory, Name, Place};
+use rl_types::{FaultKind, Limit, LimitKind, List, MOST_INCLUDES, Memory, Name, Place};
 use std::alloc::Global;
-
-/// How many files may be read within one another, from the source on (this profile).
-const MOST_DEPTH: u64 = 16;
 
 /// L2 ends what is unrolled.
 fn too_deep(
@@ -164,7 +161,7 @@ fn source_reader(alloc: Global, file: &Name) -> Result<Reader, Memory>
         being_read,
         number: 0,
         extent: Extent::Whole,
-        left: MOST_DEPTH,
+        left: MOST_INCLUDES,
     })
 }
 

@@ -1,5 +1,6 @@
 // The parts of a file.
 ghost use Rattle.std.specs.Prelude.{◌≡◌, ◌+◌, ◌-◌, ◌<◌, ◌≤◌, ◌^◌, ◌==◌, [], ◌∷◌, ◌++◌, true, false, length, take, drop, if◌then◌else◌, IfOk, MatchResult};
+ghost use Rattle.rl_types.specs.Limits.{most_source_bytes};
 ghost use Rattle.rl_lexical.specs.Answers.{Gives};
 ghost use Rattle.rl_lexical.specs.Blocks.{IsBlock};
 ghost use Rattle.rl_lexical.specs.Parts.{begins_block, shape_of, opening_len, closing_len, reach, before_body, block_end, block_of, is_fresh, is_marked, earlier, file_start, parts_from, file_parts, text_of};
@@ -314,7 +315,7 @@ fn file_start(file: u64) -> Position
 /// comes at a line, and at what stands behind a `}%%`, that begins behind blanks as a printed data section does (this
 /// profile). The first in text order is told.
 pub fn split(alloc: Global, text: &[u8], file: u64) -> Result<List<Part>, ReadFault>
-    requires { length text.now ≤ 4194304 }
+    requires { length text.now ≤ most_source_bytes }
     ensures answer { Gives (file_parts file text.now) result }
     ensures joined { IfOk result (λ parts. text_of parts ≡ text.now) }
 {

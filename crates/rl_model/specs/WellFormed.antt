@@ -1,5 +1,6 @@
 -- When the Spec of a machine is well-formed. The limits are this profile's.
 use Rattle.std.specs.Prelude.{◌≡◌, ◌≢◌, ℕ, ◌<◌, ◌≤◌, ◌&&◌, ◌↔◌, IsTrue, IsSome, IfSome, List, [], ◌∷◌, ◌++◌, map, length, filter, flat_map, All, if◌then◌else◌}
+use Rattle.rl_types.specs.Limits.{most_conditions, most_depth, most_names, most_nodes}
 use Rattle.rl_types.specs.declared.alphabet.Alphabet.{Alphabet}
 use Rattle.rl_types.specs.declared.numbers.Place.{Place}
 use Rattle.rl_types.specs.Alphabet.{has_key}
@@ -87,8 +88,8 @@ pub record IsWellFormed (spec : Spec) : Type 0 where
   -- how many there are
   pub some_entry : 1 ≤ length spec.entries
   pub few_entries : length spec.entries ≤ 65536
-  pub few_actions : length spec.actions ≤ 65535
-  pub few_conditions : length spec.conds ≤ 8
+  pub few_actions : length spec.actions ≤ most_names
+  pub few_conditions : length spec.conds ≤ most_conditions
   -- names
   pub entries_differ : AreDifferent (map (λ (e : rust_entry.Entry). e.name) spec.entries)
   pub actions_differ : AreDifferent (map (λ (a : ActionDef). a.name) spec.actions)
@@ -105,9 +106,9 @@ pub record IsWellFormed (spec : Spec) : Type 0 where
   -- expressions
   pub keys_in_alphabet : All (All (IsInAlphabet spec.alphabet)) (flat_map sets_in (all_trees (specification_of spec)))
   pub few_ranges : All (λ (ranges : List Range). length ranges ≤ 256) (flat_map sets_in (all_trees (specification_of spec)))
-  pub few_nodes : All (λ (x : Root). root_size x ≤ 100000) (roots_of (specification_of spec))
-  pub not_deep : All (λ (x : Root). root_depth x ≤ 2000) (roots_of (specification_of spec))
-  pub stamps : All (IsNumber 100000) (flat_map stamps_in (all_trees (specification_of spec)))
+  pub few_nodes : All (λ (x : Root). root_size x ≤ most_nodes) (roots_of (specification_of spec))
+  pub not_deep : All (λ (x : Root). root_depth x ≤ most_depth) (roots_of (specification_of spec))
+  pub stamps : All (IsNumber most_nodes) (flat_map stamps_in (all_trees (specification_of spec)))
   pub places : All HasPlaces spec.entries
   pub patterns : All HasPatterns (roots_of (specification_of spec))
   -- control statements

@@ -6,6 +6,7 @@ use Rattle.std.specs.Map.{lookup}
 use Rattle.std.specs.List.{list_any}
 use Rattle.std.specs.Option.{option_map, option_map_or}
 use Rattle.std.specs.Str.{bytes_eq}
+use Rattle.rl_types.specs.Limits.{most_names}
 use Rattle.rl_types.specs.declared.faults.FaultKind.TheVariants.{F5, F6, F13, F14}
 use Rattle.rl_types.specs.declared.faults.LimitKind.TheVariants.{L9}
 use Rattle.rl_types.specs.declared.numbers.Place.{Place}
@@ -169,9 +170,9 @@ too_many place = reason.Limit (record { kind = L9; place = place })
 abbrev pub unless : Bool → ReadFault → Option ReadFault
 unless good fault = if good then None else Some fault
 
--- a name behind n others, of which a machine has 65,535 at most
+-- a name behind n others: is it one too many?
 abbrev pub counted : ℕ → Place → Option ReadFault
-counted n place = unless (nat_lt n 65535) (too_many place)
+counted n place = unless (nat_lt n most_names) (too_many place)
 
 abbrev pub is_usable : Option Brought → Bool
 is_usable b = option_map_or (λ (x : Brought). x.usable) b false

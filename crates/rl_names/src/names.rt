@@ -17,11 +17,8 @@ use indexmap::{IndexMap, IndexSet};
 use rl_grammar::syntax::{Action, ActionUse, Definition, Statement, Word, Write, WriteKind};
 use rl_grammar::{ReadFault, Step};
 use rl_leaves::is_built_in;
-use rl_types::{FaultKind, Limit, LimitKind, Place};
+use rl_types::{FaultKind, Limit, LimitKind, MOST_NAMES, Place};
 use std::alloc::Global;
-
-/// The names that a machine may have.
-const MOST_NAMES: u32 = 65535;
 
 /// How many names there are with one more, behind others.
 fn counted(count: u32, place: Place) -> Result<u32, ReadFault>

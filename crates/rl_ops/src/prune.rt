@@ -1,6 +1,7 @@
 // A machine without the steps to states that no word leads from to a final one.
 ghost use Rattle.std.specs.Prelude.{◌≡◌, false, List, Bool, IfOk, IfErr, OnOk};
 ghost use Rattle.std.specs.Cmp.{unsigned_Decides};
+ghost use Rattle.rl_types.specs.Limits.{most_configurations};
 ghost use Rattle.rl_automata.specs.declared.tree.Kind.{Kind};
 ghost use Rattle.rl_automata.specs.Auto.{pruned, quiet, both_auto, and_auto, minus_auto, both_jams};
 ghost use Rattle.rl_automata.specs.Marks.{HasMarks};
@@ -114,7 +115,7 @@ impl<'a> Operator for Pruned<'a> {
 // The machine without the steps that lead to no final state.
 fn prune(alloc: Global, m: &Fsm, most: u32) -> Result<Fsm, BuildFault>
     ensures pruned { IfOk result (λ r. (live : List Bool) × TellsLive (fsm_auto m.now) (live_at live) × Builds (pruned (live_at live) (fsm_auto m.now)) r) }
-    ensures refused { IfErr result (λ e. ¬ HasMore (fsm_auto m.now) 32767 → ¬ HasMore (fsm_auto m.now) most → e ≡ BuildFault.Memory) }
+    ensures refused { IfErr result (λ e. ¬ HasMore (fsm_auto m.now) most_configurations → ¬ HasMore (fsm_auto m.now) most → e ≡ BuildFault.Memory) }
 {
     let live = live_states(alloc, m)?;
     let pruned = Pruned { m, live: &live };

@@ -6,7 +6,7 @@ ghost use Rattle.rl_parse.specs.Parse.{IsFirst};
 
 use crate::numbers::number;
 use rl_grammar::{ReadFault, Token, TokenKind};
-use rl_types::{Fault, FaultKind, Limit, LimitKind, Place};
+use rl_types::{Fault, FaultKind, Limit, LimitKind, MOST_PARENTHESES, Place};
 
 fn kind_at(tokens: &[Token], at: usize, kind: TokenKind) -> bool
     ensures { result ≡ spec.is_at kind tokens.now at }
@@ -69,7 +69,7 @@ fn too_deep(depth: usize, tokens: &[Token], at: usize) -> Option<ReadFault>
     requires { depth ≡ spec.opened 0 (take at tokens.now) }
     ensures { result ≡ spec.too_deep tokens.now at }
 {
-    if kind_at(tokens, at, TokenKind::OpenParenthesis) && 128 <= depth {
+    if kind_at(tokens, at, TokenKind::OpenParenthesis) && MOST_PARENTHESES <= depth {
         let kind = LimitKind::L3;
         let place = place_at(tokens, at);
         Some(ReadFault::Limit(Limit { kind, place }))

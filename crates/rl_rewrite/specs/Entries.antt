@@ -1,6 +1,7 @@
 -- The entries of a machine, and the first limit that one of them passes. The limits are this profile's.
 use Rattle.std.specs.Prelude.{◌≡◌, ℕ, ◌≤◌, Bool, true, false, cond, nat_lt, List, [], ◌∷◌, ◌++◌, length, map, Option, Some, None, All}
 use Rattle.std.specs.List.{flat_map}
+use Rattle.rl_types.specs.Limits.{most_conditions, most_depth, most_nodes}
 use Rattle.rl_types.specs.declared.alphabet.Alphabet.{Alphabet}
 use Rattle.rl_types.specs.declared.numbers.Place.{Place}
 use Rattle.rl_types.specs.declared.numbers.ActionId.{ActionId}
@@ -76,10 +77,10 @@ abbrev pub conditions_behind : List ActionId → Meaning → List ActionId
 conditions_behind conditions m = (walk_value m.value (begun conditions)).1.conditions
 
 abbrev pub size_limit : ℕ → ℕ → Option LimitKind
-size_limit nodes depth = cond (nat_lt 100000 nodes) (Some L4) (cond (nat_lt 2000 depth) (Some L5) None)
+size_limit nodes depth = cond (nat_lt most_nodes nodes) (Some L4) (cond (nat_lt most_depth depth) (Some L5) None)
 
 abbrev pub condition_limit : List ActionId → Option LimitKind
-condition_limit conditions = cond (nat_lt 8 (length conditions)) (Some L7) None
+condition_limit conditions = cond (nat_lt most_conditions (length conditions)) (Some L7) None
 
 abbrev pub earlier_limit : Option LimitKind → Option LimitKind → Option LimitKind
 earlier_limit None later = later
@@ -125,9 +126,9 @@ first_limit conditions (m ∷ ms) = limit_at (limit_by conditions m) m.place (fi
 
 -- it has few nodes, it is not deep, its stamps are numbers from 1, and each node has its place
 pub record IsMade (m : Made) : Type 0 where
-  pub few_nodes : root_size m.root ≤ 100000
-  pub not_deep : root_depth m.root ≤ 2000
-  pub stamps : All (IsNumber 100000) (flat_map stamps_in (trees_of m.root))
+  pub few_nodes : root_size m.root ≤ most_nodes
+  pub not_deep : root_depth m.root ≤ most_depth
+  pub stamps : All (IsNumber most_nodes) (flat_map stamps_in (trees_of m.root))
   pub places : length m.places ≡ root_size m.root
 
 -- it is want of memory, or this limit

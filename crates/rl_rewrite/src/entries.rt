@@ -1,5 +1,6 @@
 // The entries of a machine.
 ghost use Rattle.std.specs.Prelude.{◌≡◌, ◌≤◌, ◌<◌, ◌+◌, ◌++◌, ◌∷◌, [], length, map, drop, IfOk, IfErr, Some, None, true, All};
+ghost use Rattle.rl_types.specs.Limits.{most_nodes};
 ghost use Rattle.rl_types.specs.declared.numbers.ActionId.{ActionId};
 ghost use Rattle.std.specs.List.{flat_map};
 ghost use Rattle.rl_automata.specs.Refused.{AreDifferent, conditions_in, sets_in};
@@ -23,7 +24,9 @@ use crate::sizes::{Size, entry_size, sizes_before, table};
 use crate::walk::before;
 use rl_draft::{Definition, Draft, Sign, Value};
 use rl_model::Entry;
-use rl_types::{ActionId, Alphabet, Limit, LimitKind, List, Name};
+use rl_types::{
+    ActionId, Alphabet, Limit, LimitKind, List, MOST_CONDITIONS, MOST_DEPTH, MOST_NODES, Name,
+};
 use std::alloc::{AllocError, Global};
 
 /// The trees of a machine's instantiations.
@@ -64,9 +67,9 @@ fn copied(alloc: Global, name: &Name) -> Result<Name, AllocError>
 fn size_limit(size: Size) -> Option<LimitKind>
     ensures { result ≡ spec.size_limit size.nodes size.depth }
 {
-    if size.nodes > 100_000 {
+    if size.nodes > u64::from(MOST_NODES) {
         Some(LimitKind::L4)
-    } else if size.depth > 2_000 {
+    } else if size.depth > u64::from(MOST_DEPTH) {
         Some(LimitKind::L5)
     } else {
         None
@@ -88,7 +91,7 @@ fn walk_entry(
     value: &Value,
     conditions: List<ActionId>,
 ) -> Result<Walked, AllocError>
-    requires room { value_nodes (value_behind alphabet earlier.now value.now) ≤ 100000 }
+    requires room { value_nodes (value_behind alphabet earlier.now value.now) ≤ most_nodes }
     requires few { length conditions ≤ 8 }
     ensures root { IfOk result (λ r. root_placed r.root ≡ (w.walk_value (value_behind alphabet earlier.now value.now) (begun conditions)).0) }
     ensures places { IfOk result (λ r. pattern_places r.root.root ≡ places_of_patterns (value_behind alphabet earlier.now value.now)) }
@@ -132,7 +135,7 @@ fn small_entry(
     d: &Definition,
     made: Rewritten,
 ) -> Result<Rewritten, RewriteFault>
-    requires room { value_nodes (value_behind alphabet earlier.now d.now.value) ≤ 100000 }
+    requires room { value_nodes (value_behind alphabet earlier.now d.now.value) ≤ most_nodes }
     requires few { length made.conditions ≤ 8 }
     ensures made { IfOk result (λ r. map made_of r.entries ≡ map made_of made.entries ++ entry made.conditions (meaning d.now (value_behind alphabet earlier.now d.now.value)) ∷ []) }
     ensures conditions { IfOk result (λ r. (r.conditions ≡ conditions_behind made.conditions (meaning d.now (value_behind alphabet earlier.now d.now.value))) × (length r.conditions ≤ 8)) }
@@ -146,7 +149,7 @@ fn small_entry(
         return Err(RewriteFault::Memory);
     };
     let Walked { root, conditions } = x;
-    if conditions.len() > 8 {
+    if conditions.len() > MOST_CONDITIONS {
         return Err(RewriteFault::Limit(Limit {
             kind: LimitKind::L7,
             place: d.place,

@@ -1,6 +1,5 @@
 pub mod Entries
 pub mod Lengths
-pub mod Modes
 pub mod Outer
 pub mod Rows
 pub mod Said

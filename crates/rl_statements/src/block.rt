@@ -4,7 +4,7 @@ ghost use Rattle.rl_lexical.specs.declared.mode.Mode.TheVariants as m;
 ghost use Rattle.rl_lexical.specs.Modes.{mode_after};
 ghost use Rattle.rl_code.specs.Reading.{IsBlock};
 
-use crate::mode::mode_behind;
+use rl_bytes::mode_behind;
 use rl_lexical::Mode;
 
 #[tactic(auto, unfolding(rl_lexical::specs::Modes::mode_after))]

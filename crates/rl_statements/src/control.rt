@@ -6,10 +6,10 @@ ghost use Rattle.rl_code.specs.declared.word.CodeWord.TheVariants as w;
 ghost use Rattle.rl_code.specs.Texts as texts;
 ghost use Rattle.rl_code.specs.Forms as forms;
 
-use crate::bytes::are_blanks;
 use crate::goal::goal_in;
 use crate::memory::named;
-use crate::text::{behind_blanks, cut_word, only_name, up_to_semicolon};
+use crate::text::{only_name, up_to_semicolon};
+use rl_bytes::{are_blanks, behind_blanks, cut_word};
 use rl_code::{CodeWord, Control, Saying};
 use rl_run::{GoalBase, StatementKind};
 use rl_types::Memory;

@@ -2,9 +2,8 @@
 ghost use Rattle.std.specs.Prelude.{◌≡◌, MatchOption, None, Some};
 ghost use Rattle.rl_code.specs.Forms as forms;
 
-use crate::bytes::are_blanks;
 use crate::number::{added, taken};
-use crate::text::{behind_blanks, cut_word};
+use rl_bytes::{are_blanks, behind_blanks, cut_word};
 use rl_run::GoalBase;
 
 /// The goal of an exec.

@@ -2,20 +2,17 @@
 #![tactic(auto)]
 
 mod block;
-mod bytes;
 mod control;
 mod faults;
 mod goal;
 mod laws;
 mod memory;
-mod mode;
 mod number;
 mod reading;
 mod rows;
 mod said;
 mod text;
 mod walk;
-mod word;
 
 pub use block::is_block;
 pub use faults::{fifth_outer, first_misplaced};

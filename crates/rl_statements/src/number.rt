@@ -6,8 +6,7 @@ ghost use Rattle.std.specs.Str.Parse.{digits_value};
 ghost use Rattle.rl_arrays.specs.Names as names;
 ghost use Rattle.rl_code.specs.Forms as forms;
 
-use crate::bytes::{are_blanks, digits_len, is_digit};
-use crate::text::behind_blanks;
+use rl_bytes::{are_blanks, behind_blanks, digits_len, is_digit};
 
 /// The value of a digit, and 36 for other bytes.
 fn digit_value(b: u8) -> u128

@@ -4,9 +4,8 @@ ghost use Rattle.rl_lexical.specs.declared.mode.Mode.TheVariants as m;
 ghost use Rattle.rl_code.specs.Texts as texts;
 ghost use Rattle.rl_statements.specs.Lengths.{statement_len};
 
-use crate::bytes::{are_blanks, blanks_len, word_len};
-use crate::mode::{is_left, is_outside, mode_behind};
 use rl_arrays::is_name;
+use rl_bytes::{are_blanks, behind_blanks, cut_word, is_left, is_outside, mode_behind};
 use rl_lexical::Mode;
 
 #[tactic(auto, unfolding(crate::specs::Lengths::statement_len))]
@@ -39,22 +38,6 @@ pub fn up_to_semicolon(depth: u64, text: &[u8]) -> Option<&[u8]>
         Some(len) => Some(&text[..len]),
         None => None,
     }
-}
-
-/// The text without the blanks that it begins with.
-pub fn behind_blanks(text: &[u8]) -> &[u8]
-    ensures { result.now ≡ texts.behind_blanks text.now }
-{
-    &text[blanks_len(text)..]
-}
-
-/// The word that a text begins with, and what stands behind it.
-pub fn cut_word(text: &[u8]) -> (&[u8], &[u8])
-    ensures word { result.0.now ≡ texts.first_word text.now }
-    ensures behind { result.1.now ≡ texts.behind_word text.now }
-    ensures bound { length result.1.now ≤ length text.now }
-{
-    text.split_at(word_len(text))
 }
 
 /// The name that is all of a text but blanks.

@@ -4,14 +4,11 @@ ghost use Rattle.rl_lexical.specs.declared.mode.Mode.TheVariants as m;
 ghost use Rattle.rl_code.specs.Texts.{first_word, behind_word};
 ghost use Rattle.rl_code.specs.Forms as forms;
 ghost use Rattle.rl_code.specs.Sayings as sayings;
-ghost use Rattle.rl_statements.specs.Modes.{is_of_code, depth_of};
+ghost use Rattle.rl_bytes.specs.Modes.{is_of_code, depth_of};
 
-use crate::bytes::in_word;
 use crate::control::saying_of;
 use crate::memory::put;
-use crate::mode::{braces, is_outside, mode_behind};
-use crate::text::cut_word;
-use crate::word::code_word;
+use rl_bytes::{braces, code_word, cut_word, in_word, is_outside, mode_behind};
 use rl_code::Said;
 use rl_lexical::Mode;
 use rl_types::Memory;

@@ -1,3 +1,4 @@
 pub mod Alphabet
 pub mod KeyRange
+pub mod Limits
 pub mod Status

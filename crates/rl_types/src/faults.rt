@@ -42,8 +42,6 @@ pub enum FaultKind {
     F18,
     /// Marker: a line begins with the marker of a data section.
     F19,
-    /// Not yet: a construct that is not built yet.
-    F20,
 }
 
 /// A fault with its place.

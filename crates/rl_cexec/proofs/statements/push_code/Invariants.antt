@@ -1,6 +1,6 @@
 use Rattle.std.proofs.Common.{◌≡◌, ◌≤◌, ◌++◌, true, drop}
 use Rattle.rl_lexical.specs.declared.mode.Mode.TheVariants as m
-use Rattle.rl_cexec.specs.Modes.{is_of_code, depth_of}
+use Rattle.rl_bytes.specs.Modes.{is_of_code, depth_of}
 use Rattle.rl_cexec.specs.Code.{statement_or_value, code_from}
 use Rattle.rl_cexec.proofs.statements.push_code.Given as goal
 

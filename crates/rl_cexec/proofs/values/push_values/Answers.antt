@@ -1,5 +1,5 @@
 use Rattle.std.proofs.Common.{◌+◌, ◌<◌, ◌≤◌, length, rules}
-use Rattle.rl_cexec.specs.Modes.{depth_of}
+use Rattle.rl_bytes.specs.Modes.{depth_of}
 use Rattle.rl_cexec.specs.Code.{value}
 use Rattle.rl_cexec.proofs.WalkLaws.{one_more}
 use Rattle.rl_cexec.proofs.values.push_values.Goals as goal

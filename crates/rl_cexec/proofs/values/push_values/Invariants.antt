@@ -1,5 +1,5 @@
 use Rattle.std.proofs.Common.{◌≡◌, ◌≤◌, ◌++◌, true, drop}
-use Rattle.rl_cexec.specs.Modes.{is_of_code, depth_of}
+use Rattle.rl_bytes.specs.Modes.{is_of_code, depth_of}
 use Rattle.rl_cexec.specs.Code.{value, code_from, values_text}
 use Rattle.rl_cexec.proofs.values.push_values.Given as goal
 

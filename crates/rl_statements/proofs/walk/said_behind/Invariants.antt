@@ -1,7 +1,7 @@
 use Rattle.std.proofs.Common.{◌≡◌, ◌+◌, ◌≤◌, ◌++◌, true, drop}
 use Rattle.rl_lexical.specs.declared.mode.Mode.TheVariants as m
 use Rattle.rl_code.specs.Sayings.{sayings_from}
-use Rattle.rl_statements.specs.Modes.{is_of_code, depth_of}
+use Rattle.rl_bytes.specs.Modes.{is_of_code, depth_of}
 use Rattle.rl_statements.proofs.walk.said_behind.Given as goal
 
 abbrev pub invariant-loop-at : goal.invariant-loop-at

@@ -1,11 +1,11 @@
-//! The words of C that stand in the line of an array.
+// The words of C that stand in the line of an array.
 ghost use Rattle.std.specs.Prelude.{◌≡◌};
 ghost use Rattle.rl_arrays.specs.Section as section;
 
 use rl_arrays::ArrayName;
 
-/// The name of an array, as it is printed.
-pub(crate) fn word(array: ArrayName) -> &'static [u8]
+/// The name of an array, as it is printed (this profile).
+pub fn array_word(array: ArrayName) -> &'static [u8]
     ensures { result.now ≡ section.word array }
 {
     match array {
@@ -40,38 +40,14 @@ pub(crate) fn word(array: ArrayName) -> &'static [u8]
     }
 }
 
-/// The C type of an array's elements.
-pub(crate) fn c_type(array: ArrayName) -> &'static [u8]
+/// The C type of an array's elements (this profile).
+pub fn array_type(array: ArrayName) -> &'static [u8]
     ensures { result.now ≡ section.ctype array }
 {
     match array {
-        ArrayName::Actions => b"const int",
-        ArrayName::KeyOffsets => b"const int",
         ArrayName::TransKeys => b"const long long",
-        ArrayName::SingleLengths => b"const int",
-        ArrayName::RangeLengths => b"const int",
-        ArrayName::CellOffsets => b"const int",
-        ArrayName::CellUses => b"const int",
-        ArrayName::CellAsks => b"const int",
-        ArrayName::CellEntries => b"const int",
-        ArrayName::TransTargs => b"const int",
-        ArrayName::TransLists => b"const int",
-        ArrayName::FromLists => b"const int",
-        ArrayName::ToLists => b"const int",
-        ArrayName::EofLists => b"const int",
-        ArrayName::ErrorLists => b"const int",
-        ArrayName::AcceptLists => b"const int",
-        ArrayName::StateKinds => b"const int",
-        ArrayName::Homes => b"const int",
-        ArrayName::ActionNames => b"const char *const",
-        ArrayName::StmtFirsts => b"const int",
-        ArrayName::StmtCounts => b"const int",
-        ArrayName::StmtKinds => b"const int",
-        ArrayName::StmtOuter => b"const int",
-        ArrayName::StmtArgs => b"const int",
-        ArrayName::StmtBases => b"const int",
-        ArrayName::CondNames => b"const char *const",
-        ArrayName::EntryNames => b"const char *const",
-        ArrayName::EntryStates => b"const int",
+        ArrayName::ActionNames | ArrayName::CondNames | ArrayName::EntryNames =>
+            b"const char *const",
+        _ => b"const int",
     }
 }

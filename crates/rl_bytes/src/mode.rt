@@ -1,8 +1,8 @@
-//! How far code is read.
+// How far code is read.
 ghost use Rattle.std.specs.Prelude.{◌≡◌, ◌+◌, ◌<◌, ◌≤◌, ◌^◌, true};
-ghost use Rattle.rl_lexical.specs.Modes.{code_step, code_slash_step, code_quote_step, line_comment_step, block_comment_step, block_star_step, mode_behind};
+ghost use Rattle.rl_lexical.specs.Modes.{code_step, code_slash_step, code_quote_step, line_comment_step, block_comment_step, block_star_step, mode_behind, mode_after};
 ghost use Rattle.rl_code.specs.Texts as texts;
-ghost use Rattle.rl_cexec.specs.Modes.{is_of_code, depth_of};
+ghost use Rattle.rl_bytes.specs.Modes.{is_of_code, depth_of};
 
 use rl_lexical::Mode;
 
@@ -91,7 +91,7 @@ fn behind_block_star(depth: u64, b: u8) -> Mode
 }
 
 /// What one byte more makes of a mode of code.
-pub(crate) fn mode_behind(mode: Mode, b: u8) -> Mode
+pub fn mode_behind(mode: Mode, b: u8) -> Mode
     requires code { is_of_code mode ≡ true }
     requires room { depth_of mode + 1 < 2 ^ 64 }
     ensures value { result ≡ mode_behind mode b }
@@ -120,8 +120,30 @@ pub(crate) fn mode_behind(mode: Mode, b: u8) -> Mode
 }
 
 /// Whether it is outside strings, character literals and comments.
-pub(crate) fn is_outside(mode: Mode) -> bool
+pub fn is_outside(mode: Mode) -> bool
     ensures { result ≡ texts.is_outside mode }
 {
     matches!(mode, Mode::Code(_) | Mode::CodeSlash(_))
+}
+
+/// How many braces are open there inside the code's own.
+pub fn braces(mode: Mode) -> u64
+    ensures value { result ≡ texts.braces mode }
+    ensures bound { result ≤ depth_of mode }
+{
+    match mode {
+        Mode::Code(depth) | Mode::CodeSlash(depth) => depth,
+        _ => 0,
+    }
+}
+
+/// Whether a brace ends around what stands inside so many.
+pub fn is_left(depth: u64, mode: Mode) -> bool
+    ensures { result ≡ texts.is_left depth mode }
+{
+    match mode {
+        Mode::Complete => true,
+        Mode::Code(d) => d < depth,
+        _ => false,
+    }
 }
