@@ -19,18 +19,19 @@ fn root(alloc: Global) -> Result<RootFsm, Fail> {
     Ok(root)
 }
 
-// The starts come first, and final states last.
+// The starts come first, and final states last. Behind the character nothing is left to read, as in the empty word: one
+// state serves both.
 #[test]
 fn numbers_are_canonical(rt: HostRuntime) -> Result<(), Fail> {
     let root = root(rt.alloc())?;
     if root.entry(EntryId(1)).is_some() {
         let machine = minimise(rt.alloc(), &root)?;
         assert_eq!(rt; machine.entries(), [1, 2].as_slice());
-        assert_eq!(rt; machine.states(), 4);
+        assert_eq!(rt; machine.states(), 3);
         assert_eq!(rt; machine.first_final(), 2);
         let edges = machine.state(1).edges.as_slice();
         assert_eq!(rt; edges.len(), 1);
-        assert_eq!(rt; edges[0].target, 3);
+        assert_eq!(rt; edges[0].target, 2);
     }
     Ok(())
 }

@@ -1,6 +1,6 @@
 // The tables of `main := 'a';`.
 ghost use Rattle.std.specs.Prelude.{◌≡◌, IfOk};
-ghost use Rattle.rl_tests.specs.OneCharacter.{main_entry, one_character};
+ghost use Rattle.rl_tests_machines.specs.OneCharacter.{main_entry, one_character};
 
 use rl_automata::Tree;
 use rl_make::{BuildRefusal, tables_of};

@@ -13,7 +13,7 @@ use Rattle.rl_model.specs.declared.spec.Entry as rust_entry
 use Rattle.rl_model.specs.Counts.{root_size, root_depth}
 use Rattle.rl_model.specs.Specification.{Root, root_of}
 use Rattle.rl_model.specs.WellFormed.{IsNumber, HasNoStatement, HasPatterns, HasPlaces, IsCodeRead, IsInAlphabet, IsWellFormed, outer_statements}
-use Rattle.rl_tests.specs.OneCharacter.{main_entry, one_character}
+use Rattle.rl_tests_machines.specs.OneCharacter.{main_entry, one_character}
 
 none : {A : Type 0} (P : A → Type 0) → All P []
 none P = All-from_recursion P [] tt

@@ -1,0 +1,108 @@
+// The sections of sources with a store in memory.
+use rl_compile::{CompileFault, section_of, specs_of};
+use rl_io::{MemStore, Store};
+use rl_resolve::Runs;
+use rl_types::{FaultKind, List};
+use std::alloc::Global;
+use std::test::Fail;
+
+// The lines of the section of `'ab' $x`.
+const SECTION: [&str; 35] = [
+    "/* rl-data 2 one */",
+    "static const int one_start = 1;",
+    "static const int one_first_final = 3;",
+    "static const int one_error = 0;",
+    "static const int one_alphabet = 0;",
+    "static const int one_en_main = 1;",
+    "static const int _one_actions[] = { 0, 1, 1 };",
+    "static const int _one_key_offsets[] = { 0, 0, 1, 2 };",
+    "static const long long _one_trans_keys[] = { 97, 98, 0 };",
+    "static const int _one_single_lengths[] = { 0, 1, 1, 0 };",
+    "static const int _one_range_lengths[] = { 0, 0, 0, 0 };",
+    "static const int _one_cell_offsets[] = { 0, 0, 1, 2 };",
+    "static const int _one_cell_uses[] = { 0, 1, 0 };",
+    "static const int _one_cell_asks[] = { 0, 0, 0 };",
+    "static const int _one_cell_entries[] = { 0, 1, 0 };",
+    "static const int _one_trans_targs[] = { 2, 3, 0 };",
+    "static const int _one_trans_lists[] = { 1, 1, 0 };",
+    "static const int _one_from_lists[] = { 0, 0, 0, 0 };",
+    "static const int _one_to_lists[] = { 0, 0, 0, 0 };",
+    "static const int _one_eof_lists[] = { 0, 0, 0, 0 };",
+    "static const int _one_error_lists[] = { 0, 0, 0, 0 };",
+    "static const int _one_accept_lists[] = { 0, 0, 0, 0 };",
+    "static const int _one_state_kinds[] = { 0, 0, 0, 0 };",
+    "static const int _one_homes[] = { 0, 0, 0, 0 };",
+    "static const char *const _one_action_names[] = { \"\", \"x\" };",
+    "static const int _one_stmt_firsts[] = { 0, 1 };",
+    "static const int _one_stmt_counts[] = { 0, 0 };",
+    "static const int _one_stmt_kinds[] = { 0 };",
+    "static const int _one_stmt_outer[] = { 0 };",
+    "static const int _one_stmt_args[] = { 0 };",
+    "static const int _one_stmt_bases[] = { 0 };",
+    "static const char *const _one_cond_names[] = { \"\" };",
+    "static const char *const _one_entry_names[] = { \"\", \"main\" };",
+    "static const int _one_entry_states[] = { 0, 1 };",
+    "/* rl-end one */",
+];
+
+fn store_with(alloc: Global, text: &str) -> Result<MemStore, Fail> {
+    let mut store = MemStore::new(alloc, Vec::new(alloc), Vec::new(alloc));
+    store.write("m.rl", text.as_bytes())?;
+    Ok(store)
+}
+
+fn section(alloc: Global, text: &str) -> Result<Result<List<u8>, CompileFault>, Fail> {
+    let mut store = store_with(alloc, text)?;
+    Ok(section_of(alloc, "m.rl", None, &mut store))
+}
+
+#[test]
+fn section_is_printed(rt: HostRuntime) -> Result<(), Fail> {
+    let alloc = rt.alloc();
+    let mut wanted = Vec::new(alloc);
+    for line in SECTION {
+        wanted.extend_from_slice(line.as_bytes())?;
+        wanted.push(b'\n')?;
+    }
+    let text = "%%{ machine one; action x { } main := 'ab' $x; write data; }%%";
+    match section(alloc, text)? {
+        Ok(bytes) => assert_eq!(rt; bytes.as_slice(), wanted.as_slice()),
+        Err(_) => assert!(rt; false),
+    }
+    Ok(())
+}
+
+// Two sources whose machines do the same have one section.
+#[test]
+fn alike_sources_print_alike(rt: HostRuntime) -> Result<(), Fail> {
+    let alloc = rt.alloc();
+    let one = section(
+        alloc,
+        "%%{ machine m; action X { } main := 'ab' $X | 'cb' $X; write data; }%%",
+    )?;
+    let other = section(
+        alloc,
+        "%%{ machine m; action X { } main := ( ( 'a' | 'c' ) 'b' ) $X; write data; }%%",
+    )?;
+    match (one, other) {
+        (Ok(a), Ok(b)) => assert_eq!(rt; a.as_slice(), b.as_slice()),
+        _ => assert!(rt; false),
+    }
+    Ok(())
+}
+
+// Whether the first refusal of the source under a name is this fault.
+fn has_fault(alloc: Global, name: &str, text: &str, kind: FaultKind) -> Result<bool, Fail> {
+    let mut store = store_with(alloc, text)?;
+    match specs_of(alloc, name, Runs::First, &mut store) {
+        Err(CompileFault::Fault(fault, _file)) => Ok(fault.kind == kind),
+        _ => Ok(false),
+    }
+}
+
+#[test]
+fn first_fault_is_told(rt: HostRuntime) -> Result<(), Fail> {
+    let text = "%%{ machine m; main := x; }%%";
+    assert!(rt; has_fault(rt.alloc(), "m.rl", text, FaultKind::F5)?);
+    Ok(())
+}
