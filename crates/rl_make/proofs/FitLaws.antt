@@ -28,7 +28,7 @@ use Rattle.rl_minimal.specs.declared.state.MinState.{MinState}
 use Rattle.rl_minimal.specs.Minimal.{Minimal, numbers, at_state, reads_of}
 use Rattle.rl_minimal.specs.Machine.{edge_for, go_of, edges_at, min_machine}
 use Rattle.rl_minimal.specs.Sound.{AreReads, IsEdge, IsState, IsMinimal}
-use Rattle.rl_min.specs.Canonical.{IsMachineOf}
+use Rattle.rl_reach.specs.Canonical.{IsMachineOf}
 use Rattle.rl_root.specs.Roots as machines
 use Rattle.rl_build.specs.Entries.{AreMachinesOf}
 use Rattle.rl_build.specs.Roots as built

@@ -26,10 +26,10 @@ use Rattle.rl_minimal.specs.declared.state.MinState.{MinState}
 use Rattle.rl_minimal.specs.Minimal.{Minimal, numbers, at_state}
 use Rattle.rl_minimal.specs.Machine.{edge_for, go_of, edges_at, min_machine}
 use Rattle.rl_minimal.specs.Sound.{IsMinimal}
-use Rattle.rl_min.specs.Canonical.{IsMachineOf}
-use Rattle.rl_min.specs.Laws.{BeginIn}
+use Rattle.rl_reach.specs.Canonical.{IsMachineOf}
+use Rattle.rl_reach.specs.Laws.{BeginIn}
 use Rattle.rl_root.specs.Roots as machines
-use Rattle.rl_min.proofs.BreadthLaws.{built_known}
+use Rattle.rl_reach.proofs.BreadthLaws.{built_known}
 use Rattle.rl_build.specs.Roots as built
 use Rattle.rl_layout.specs.Books.{uses_of, lists_of, order_of}
 use Rattle.rl_layout.specs.Fits.{EdgeFits, StateFits, Fits}

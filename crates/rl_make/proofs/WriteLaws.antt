@@ -14,7 +14,7 @@ use Rattle.rl_model.specs.WellFormed.{IsWellFormed}
 use Rattle.rl_minimal.specs.Minimal.{Minimal}
 use Rattle.rl_minimal.specs.Machine.{min_machine}
 use Rattle.rl_minimal.specs.Sound.{IsMinimal}
-use Rattle.rl_min.specs.Canonical.{IsMachineOf}
+use Rattle.rl_reach.specs.Canonical.{IsMachineOf}
 use Rattle.rl_layout.specs.Fits.{Fits}
 use Rattle.rl_layout.specs.Layout.{arrays_of}
 use Rattle.rl_layout.specs.Shown.{number_of, Shows}

@@ -3,7 +3,7 @@ ghost use Rattle.std.specs.Prelude.{◌≡◌, ◌≤◌, IfOk, IfErr, OnOk, len
 ghost use Rattle.rl_arrays.specs.Valid.{Valid};
 ghost use Rattle.rl_layout.specs.Fits.{Fits};
 ghost use Rattle.rl_layout.specs.Shown.{Shows};
-ghost use Rattle.rl_min.specs.Canonical.{IsMachineOf};
+ghost use Rattle.rl_reach.specs.Canonical.{IsMachineOf};
 ghost use Rattle.rl_minimal.specs.Sound.{IsMinimal};
 ghost use Rattle.rl_model.specs.RefusedNode.{IsBuildable};
 ghost use Rattle.rl_model.specs.Specification.{specification_of};

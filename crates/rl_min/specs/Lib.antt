@@ -1,5 +1,4 @@
-pub mod Places
-pub mod Walks
-pub mod States
-pub mod Canonical
-pub mod Laws
+pub mod Numbering
+pub mod Merged
+pub mod Least
+pub mod Fewest

@@ -1,17 +1,16 @@
-//! Laws of numbers. Each function does nothing: its contract is the law, which is proved.
-ghost use Rattle.std.specs.Prelude.{List};
-ghost use Rattle.rl_types.specs.declared.alphabet.Alphabet.{Alphabet};
+//! Laws of the machine with the fewest states. Each function does nothing: its contract is the law, which is proved.
+ghost use Rattle.std.specs.Prelude.{List, ◌≤◌, length};
 ghost use Rattle.rl_fsm.specs.declared.root.EntryFsm.{EntryFsm};
 ghost use Rattle.rl_model.specs.Parts.{Context};
 ghost use Rattle.rl_minimal.specs.Minimal.{Minimal};
 ghost use Rattle.rl_minimal.specs.Sound.{IsMinimal};
-ghost use Rattle.rl_min.specs.Canonical.{IsMachineOf};
-ghost use Rattle.rl_min.specs.Laws.{BeginIn, AreNumbered};
+ghost use Rattle.rl_min.specs.Least.{IsLeastOf};
+ghost use Rattle.rl_min.specs.Fewest.{HaveAlikeEntries};
 
-/// Over an alphabet that has the first key of each edge, the numbers of a machine that the entries make are those of a
-/// breadth-first walk by letters: from the entries in text order, by ascending key and then truths. Where no two states
-/// that the entries reach are alike, they are the canonical numbers (this profile).
-pub fn numbers_follow_letters()
-    ensures { (entries : List EntryFsm) (alphabet : Alphabet) (context : Context) (m : Minimal) (is : IsMachineOf entries m) →
-        IsMinimal m → BeginIn alphabet m → AreNumbered entries alphabet context m is }
+/// No machine whose entries are alike to those of the machine that `minimise` makes, one by one, has fewer states (this
+/// profile).
+pub fn no_machine_has_fewer_states()
+    ensures { (entries : List EntryFsm) (m : Minimal) → IsLeastOf entries m → IsMinimal m →
+        (other : Minimal) → IsMinimal other → (context : Context) →
+        HaveAlikeEntries (length entries) m other context → length m.states ≤ length other.states }
 {}

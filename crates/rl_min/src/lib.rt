@@ -1,15 +1,10 @@
-//! The machine whose states tables have, made from the machines of all entries.
+//! The machine with the fewest states, made from the machines of all entries.
 #![tactic(auto)]
 
-mod entries;
 pub mod laws;
 mod lists;
 mod machine;
-mod numbered;
-mod parts;
-mod place;
-mod places;
-mod states;
-mod walk;
+mod merged;
+mod numbering;
 
 pub use machine::minimise;

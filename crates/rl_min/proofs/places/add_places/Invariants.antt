@@ -1,6 +1,0 @@
-use Rattle.std.proofs.Common.{◌≡◌, drop}
-use Rattle.rl_min.specs.Places.{with_places}
-use Rattle.rl_min.proofs.places.add_places.Given as goal
-
-abbrev pub invariant-loop-place : goal.invariant-loop-place
-invariant-loop-place l = with_places l.initial.places.keys l.more ≡ with_places l.places.keys (drop l.place-index l.more)

@@ -1,6 +1,0 @@
-use Rattle.std.proofs.Common.{◌≡◌, ◌∷◌, map, take}
-use Rattle.rl_min.specs.States.{error_state, state_for}
-use Rattle.rl_min.proofs.states.states_for.Given as goal
-
-abbrev pub invariant-loop-i : goal.invariant-loop-i
-invariant-loop-i l = l.states.items ≡ error_state ∷ map (state_for l.root l.places.keys) (take l.i l.places.keys)

@@ -1,0 +1,12 @@
+pub mod KindLaws
+pub mod PlaceLaws
+pub mod WalkLaws
+pub mod FewLaws
+pub mod StateLaws
+pub mod TwinLaws
+pub mod OrderLaws
+pub mod SoundLaws
+pub mod LetterLaws
+pub mod EdgeLaws
+pub mod BreadthLaws
+pub mod TargetLaws

@@ -1,0 +1,5 @@
+pub mod Places
+pub mod Walks
+pub mod States
+pub mod Canonical
+pub mod Laws

@@ -1,0 +1,4 @@
+pub mod Classes
+pub mod Covers
+pub mod Splits
+pub mod Links
