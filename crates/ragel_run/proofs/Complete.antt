@@ -1,9 +1,10 @@
--- A replay that meets no fault ends as it is to end.
-use Rattle.std.proofs.Common.{◌≡◌, ◌∙◌, ◌⊎◌, inl, inr, ℕ, true, false, List, [], ◌∷◌, Option, None, Result, Ok, Err, IsSome, refl, sym, ap, subst}
+-- A run that meets no fault ends as it is to end.
+use Rattle.std.proofs.Common.{◌≡◌, ◌∙◌, ◌⊎◌, inl, inr, ℕ, true, false, List, Option, Some, None, Result, Ok, Err, IsSome, refl, sym, ap, subst}
 use Rattle.std.proofs.lemmas.Bool.{false≢true}
-use Rattle.rl_io.specs.Outside.{Held, Rose, Reads, Lacks}
+use Rattle.rl_io.specs.Outside.{Held, Rose, Reads, Lacks, KeepsOthers}
 use Rattle.rl_types.specs.declared.status.Status.{Status}
 use Rattle.rl_types.specs.declared.status.Status.TheVariants as statuses
+use Rattle.rl_run.specs.declared.sessions.Settings.{Settings}
 use Rattle.rl_arrays.specs.declared.arrays.Arrays.{Arrays}
 use Rattle.rl_cread.specs.declared.fault.TableFault.{TableFault}
 use Rattle.rl_cread.specs.declared.fault.TableFault.TheVariants as marks
@@ -16,12 +17,17 @@ use Rattle.rl_replay.specs.declared.script.ScriptFault.{ScriptFault}
 use Rattle.rl_replay.specs.declared.script.ScriptFault.TheVariants as faults
 use Rattle.rl_replay.specs.Sessions.{Names, script_of}
 use Rattle.rl_script.specs.TableNames.{names_in}
-use Rattle.ragel_run.specs.declared.refusal.Refusal.{Refusal}
-use Rattle.ragel_run.specs.declared.refusal.Refusal.TheVariants as refusals
-use Rattle.ragel_run.specs.Files.{is_printed, IsSection, IsSpelled, IsMisspelled, Gives, IsFaulty}
-use Rattle.ragel_run.specs.Replay.{Outside, AreWords, AreNoWords, Ends, IsRefused, Due, DueByFile, DueBySource, DueByPrinted, DueByScript, HasNoFault, HasCause, IsStoppedBy, RefusesSource, HasNoSource, HasNoSection, HasNoTables, HasTablesAlone, HasNoLines, ReplaysSource, ReplaysPrinted, status_of, status_by_section, status_by_script}
+use Rattle.rl_words.specs.Runs as words
+use Rattle.rl_words.specs.Runs.{Run, is_printed}
+use Rattle.rl_ends.specs.declared.refusal.Refusal.{Refusal}
+use Rattle.rl_ends.specs.declared.refusal.Refusal.TheVariants as refusals
+use Rattle.rl_ends.specs.Statuses.{status_of, status_by_section, status_by_script}
+use Rattle.rl_ends.specs.Told.{Tells, line_of}
+use Rattle.ragel_run.specs.Files.{IsSection, IsSpelled, IsMisspelled, Gives, IsFaulty}
+use Rattle.ragel_run.specs.Replay.{Job, Replays, DueByFile, DueBySource, DueByPrinted, DueByScript, HasNoSource, HasNoSection, HasNoTables, HasTablesAlone, HasNoDue, HasNoLines, refusal_by}
+use Rattle.ragel_run.specs.Upgrade.{Renewal, DueByRenewal}
 use Rattle.ragel_run.specs.Sources.{StopsByItself, IsUnresolved, Stops}
-use Rattle.ragel_run.specs.Told.{IsComplete, EndsWith, Tells, line_of}
+use Rattle.ragel_run.specs.Ends.{Outside, Said, OfNothing, EndsReplay, EndsRenewal, EndsAtWords, Ends, EndsWith, Due, HasNoFault, HasCause, IsStoppedBy, IsComplete, Answers}
 use Rattle.ragel_run.proofs.MadeLaws.{made_names, same_names, names_alike}
 use Rattle.ragel_run.proofs.SourceLaws.{reads_same, lacks_not, spec_once, stops_once, stops_no_source, unfailed}
 
@@ -30,17 +36,73 @@ End = Result (Unit {0}) Refusal
 
 -- ---- what was found, with the tables that were spelled
 
-abbrev FoundByPrinted : Held → List ℕ → List ℕ → End → Type 0
-FoundByPrinted held spec script e =
-    (Lacks held spec × (e ≡ Err refusals.NoPrinted))
-    ⊎ ((fault : TableFault) × IsMisspelled held spec fault × (e ≡ Err (refusals.Section fault)))
-    ⊎ ((a : Arrays) × IsSpelled held spec a × DueByScript held script (names_in a) e)
+abbrev FoundByPrinted : Held → Job → End → Type 0
+FoundByPrinted held job e =
+    (Lacks held job.spec × (e ≡ Err (refusals.Missing job.spec)))
+    ⊎ ((fault : TableFault) × IsMisspelled held job.machine job.spec fault × (e ≡ Err (refusals.Section fault job.spec)))
+    ⊎ ((a : Arrays) × IsSpelled held job.machine job.spec a × DueByScript held job.script (names_in a) e)
 
-abbrev FoundByFile : Held → List ℕ → List ℕ → End → Type 0
-FoundByFile held spec script e = ((is_printed spec ≡ false) × DueBySource held spec script e) ⊎ ((is_printed spec ≡ true) × FoundByPrinted held spec script e)
+abbrev FoundByFile : Held → Job → End → Type 0
+FoundByFile held job e = ((is_printed job.spec ≡ false) × DueBySource held job e) ⊎ ((is_printed job.spec ≡ true) × FoundByPrinted held job e)
 
-abbrev Found : Held → List (List ℕ) → End → Type 0
-Found held words e = (AreNoWords words × (e ≡ Err refusals.Usage)) ⊎ ((spec script : List ℕ) × AreWords words spec script × FoundByFile held spec script e)
+abbrev FoundByRenewal : Held → Renewal → End → Type 0
+FoundByRenewal held r e =
+    (Lacks held r.spec × (e ≡ Err (refusals.Missing r.spec)))
+    ⊎ ((fault : TableFault) × IsMisspelled held r.machine r.spec fault × (e ≡ Err (refusals.Section fault r.spec)))
+    ⊎ ((a : Arrays) × IsSpelled held r.machine r.spec a × (e ≡ Ok tt))
+
+abbrev Found : Held → Option Run → End → Type 0
+Found held said e = Said (λ job. FoundByFile held job e) (λ r. FoundByRenewal held r e) (e ≡ Err refusals.Usage) said
+
+-- two things that are said of the same words
+both : (P Q : Job → Type 0) (R S : Renewal → Type 0) (T U : Type 0) (X : Type 0) (said : Option Run) → ((job : Job) → P job → Q job → X) → ((r : Renewal) → R r → S r → X) → (T → U → X) →
+    Said P R T said → Said Q S U said → X
+both P Q R S T U X (Some (words.Replay m s spec script)) f g h (inl a) (inl b) = f (record { machine = m; settings = s; spec = spec; script = script }) a b
+both P Q R S T U X (Some (words.Replay m s spec script)) f g h (inl a) (inr (inl b)) = absurd b
+both P Q R S T U X (Some (words.Replay m s spec script)) f g h (inl a) (inr (inr b)) = absurd b
+both P Q R S T U X (Some (words.Replay m s spec script)) f g h (inr (inl a)) y = absurd a
+both P Q R S T U X (Some (words.Replay m s spec script)) f g h (inr (inr a)) y = absurd a
+both P Q R S T U X (Some (words.Upgrade m out spec)) f g h (inl a) y = absurd a
+both P Q R S T U X (Some (words.Upgrade m out spec)) f g h (inr (inl a)) (inl b) = absurd b
+both P Q R S T U X (Some (words.Upgrade m out spec)) f g h (inr (inl a)) (inr (inl b)) = g (record { machine = m; out = out; spec = spec }) a b
+both P Q R S T U X (Some (words.Upgrade m out spec)) f g h (inr (inl a)) (inr (inr b)) = absurd b
+both P Q R S T U X (Some (words.Upgrade m out spec)) f g h (inr (inr a)) y = absurd a
+both P Q R S T U X (Some (words.Stream spec entry)) f g h (inr (inr a)) (inr (inr b)) = h a b
+both P Q R S T U X (Some (words.Stream spec entry)) f g h (inr (inr a)) (inr (inl b)) = absurd b
+both P Q R S T U X (Some (words.Stream spec entry)) f g h (inr (inr a)) (inl b) = absurd b
+both P Q R S T U X (Some (words.Stream spec entry)) f g h (inr (inl a)) y = absurd a
+both P Q R S T U X (Some (words.Stream spec entry)) f g h (inl a) y = absurd a
+both P Q R S T U X (Some (words.Make lines spec)) f g h (inr (inr a)) (inr (inr b)) = h a b
+both P Q R S T U X (Some (words.Make lines spec)) f g h (inr (inr a)) (inr (inl b)) = absurd b
+both P Q R S T U X (Some (words.Make lines spec)) f g h (inr (inr a)) (inl b) = absurd b
+both P Q R S T U X (Some (words.Make lines spec)) f g h (inr (inl a)) y = absurd a
+both P Q R S T U X (Some (words.Make lines spec)) f g h (inl a) y = absurd a
+both P Q R S T U X None f g h (inr (inr a)) (inr (inr b)) = h a b
+both P Q R S T U X None f g h (inr (inr a)) (inr (inl b)) = absurd b
+both P Q R S T U X None f g h (inr (inr a)) (inl b) = absurd b
+both P Q R S T U X None f g h (inr (inl a)) y = absurd a
+both P Q R S T U X None f g h (inl a) y = absurd a
+
+-- what follows in each form, or this
+or_else : (P Q : Job → Type 0) (R S : Renewal → Type 0) (T U : Type 0) (M : Type 0) (said : Option Run) → ((job : Job) → P job → Q job ⊎ M) → ((r : Renewal) → R r → S r ⊎ M) → (T → U ⊎ M) →
+    Said P R T said → Said Q S U said ⊎ M
+or_else P Q R S T U M (Some (words.Replay m s spec script)) f g h (inl a) =
+    elim (f (record { machine = m; settings = s; spec = spec; script = script }) a) [ inl b ↦ inl (inl b) | inr x ↦ inr x ]
+or_else P Q R S T U M (Some (words.Replay m s spec script)) f g h (inr (inl a)) = absurd a
+or_else P Q R S T U M (Some (words.Replay m s spec script)) f g h (inr (inr a)) = absurd a
+or_else P Q R S T U M (Some (words.Upgrade m out spec)) f g h (inl a) = absurd a
+or_else P Q R S T U M (Some (words.Upgrade m out spec)) f g h (inr (inl a)) =
+    elim (g (record { machine = m; out = out; spec = spec }) a) [ inl b ↦ inl (inr (inl b)) | inr x ↦ inr x ]
+or_else P Q R S T U M (Some (words.Upgrade m out spec)) f g h (inr (inr a)) = absurd a
+or_else P Q R S T U M (Some (words.Stream spec entry)) f g h (inl a) = absurd a
+or_else P Q R S T U M (Some (words.Stream spec entry)) f g h (inr (inl a)) = absurd a
+or_else P Q R S T U M (Some (words.Stream spec entry)) f g h (inr (inr a)) = elim (h a) [ inl b ↦ inl (inr (inr b)) | inr x ↦ inr x ]
+or_else P Q R S T U M (Some (words.Make lines spec)) f g h (inl a) = absurd a
+or_else P Q R S T U M (Some (words.Make lines spec)) f g h (inr (inl a)) = absurd a
+or_else P Q R S T U M (Some (words.Make lines spec)) f g h (inr (inr a)) = elim (h a) [ inl b ↦ inl (inr (inr b)) | inr x ↦ inr x ]
+or_else P Q R S T U M None f g h (inl a) = absurd a
+or_else P Q R S T U M None f g h (inr (inl a)) = absurd a
+or_else P Q R S T U M None f g h (inr (inr a)) = elim (h a) [ inl b ↦ inl (inr (inr b)) | inr x ↦ inr x ]
 
 -- ---- there is one end
 
@@ -65,7 +127,7 @@ module _ (held : Held) (told : IsSome held) where
   script_once script names e f (inr (inl a)) (inl b) = absurd (lacks_not held script a.1.text told b.0 a.1.reads)
   script_once script names e f (inr (inl a)) (inr (inl b)) =
       let same = same_fault a.0 b.0 (same_script script names a.1.text b.1.text (Err a.0) (Err b.0) a.1.reads b.1.reads a.1.form b.1.form) in
-      a.2 ∙ ap (λ x. Err (refusals.Script x)) same ∙ sym b.2
+      a.2 ∙ ap (λ x. Err (refusals.Script x script)) same ∙ sym b.2
   script_once script names e f (inr (inl a)) (inr (inr b)) =
       absurd (no_both b.0 a.0 (same_script script names b.1.text a.1.text (Ok b.0) (Err a.0) b.1.reads a.1.reads b.1.form a.1.form))
   script_once script names e f (inr (inr a)) (inl b) = absurd (lacks_not held script a.1.text told b.0 a.1.reads)
@@ -79,182 +141,217 @@ module _ (held : Held) (told : IsSome held) where
   due_alike script names other alike e (inr (inl a)) = inr (inl (a.0, record { text = a.1.text; reads = a.1.reads; form = sym (alike a.1.text) ∙ a.1.form }, a.2))
   due_alike script names other alike e (inr (inr a)) = inr (inr (a.0, record { text = a.1.text; reads = a.1.reads; form = sym (alike a.1.text) ∙ a.1.form }, a.2))
 
-  source_once : (spec script : List ℕ) (e f : End) → DueBySource held spec script e → DueBySource held spec script f → e ≡ f
-  source_once spec script e f (inl a) (inl b) = a.2 ∙ ap (λ s. Err (refusals.Source s)) (stops_once held told spec a.0 b.0 a.1 b.1) ∙ sym b.2
-  source_once spec script e f (inl a) (inr b) = absurd (stops_no_source held told spec a.0 b.1.source a.1 b.1.has)
-  source_once spec script e f (inr a) (inl b) = absurd (stops_no_source held told spec b.0 a.1.source b.1 a.1.has)
-  source_once spec script e f (inr a) (inr b) =
-      let same = spec_once held told spec a.1.source b.1.source a.1.has.named b.1.has.named in
+  source_once : (job : Job) (e f : End) → DueBySource held job e → DueBySource held job f → e ≡ f
+  source_once job e f (inl a) (inl b) = a.2 ∙ ap (λ s. Err (refusal_by s)) (stops_once held told job.machine job.spec a.0 b.0 a.1 b.1) ∙ sym b.2
+  source_once job e f (inl a) (inr b) = absurd (stops_no_source held told job.machine job.spec a.0 b.1.source a.1 b.1.has)
+  source_once job e f (inr a) (inl b) = absurd (stops_no_source held told job.machine job.spec b.0 a.1.source b.1 a.1.has)
+  source_once job e f (inr a) (inr b) =
+      let same = spec_once held told job.machine job.spec a.1.source b.1.source a.1.has.named b.1.has.named in
       let named = same_names a.1.source b.1.source same a.0 a.1.named in
-      script_once script b.0 e f (due_alike script a.0 b.0 (names_alike b.1.source a.0 b.0 b.1.tests named b.1.named) e a.2) b.2
+      script_once job.script b.0 e f (due_alike job.script a.0 b.0 (names_alike b.1.source a.0 b.0 b.1.tests named b.1.named) e a.2) b.2
 
-  printed_once : (spec script : List ℕ) (e f : End) → FoundByPrinted held spec script e → DueByPrinted held spec script f → e ≡ f
-  printed_once spec script e f (inl a) (inl b) = a.1 ∙ sym b.1
-  printed_once spec script e f (inl a) (inr (inl b)) = absurd (lacks_not held spec b.0 told a.0 b.1)
-  printed_once spec script e f (inl a) (inr (inr b)) = absurd (lacks_not held spec b.0 told a.0 b.1)
-  printed_once spec script e f (inr (inl a)) (inl b) = absurd (lacks_not held spec a.1.text told b.0 a.1.reads)
-  printed_once spec script e f (inr (inl a)) (inr (inl b)) =
-      let explains = subst (λ t. Explains None t b.2) (reads_same held spec b.0 a.1.text told b.1 a.1.reads) b.4 in
-      a.2 ∙ ap (λ x. Err (refusals.Section x)) (explained_once None a.1.text a.0 b.2 a.1.not_memory b.3 a.1.explains explains) ∙ sym b.5
-  printed_once spec script e f (inr (inl a)) (inr (inr b)) =
-      absurd (a.1.none b.2 (subst (λ t. IsSection t b.2) (reads_same held spec b.0 a.1.text told b.1 a.1.reads) b.3))
-  printed_once spec script e f (inr (inr a)) (inl b) = absurd (lacks_not held spec a.1.text told b.0 a.1.reads)
-  printed_once spec script e f (inr (inr a)) (inr (inl b)) =
-      let explains = subst (λ t. Explains None t b.2) (reads_same held spec b.0 a.1.text told b.1 a.1.reads) b.4 in
-      absurd (explained_unread None a.1.text b.2 a.0 b.3 explains a.1.spells a.1.fits a.1.valid)
-  printed_once spec script e f (inr (inr a)) (inr (inr b)) =
-      let same = a.1.alone b.2 (subst (λ t. IsSection t b.2) (reads_same held spec b.0 a.1.text told b.1 a.1.reads) b.3) in
-      script_once script (names_in a.0) e f a.2 (subst (λ x. DueByScript held script (names_in x) f) (sym same) b.4)
+  -- what a printed file spells, or how it is misspelled, is one
+  faults_once : (machine : Option (List ℕ)) (spec text : List ℕ) (x y : TableFault) → IsMisspelled held machine spec x → Reads held spec text → (y ≡ marks.Memory → ⊥) → Explains machine text y → x ≡ y
+  faults_once machine spec text x y m reads not explains =
+      let here = subst (λ t. Explains machine t y) (reads_same held spec text m.text told reads m.reads) explains in
+      explained_once machine m.text x y m.not_memory not m.explains here
 
-  file_once : (spec script : List ℕ) (e f : End) → FoundByFile held spec script e → DueByFile held spec script f → e ≡ f
-  file_once spec script e f (inl a) (inl b) = source_once spec script e f a.1 b.1
-  file_once spec script e f (inl a) (inr b) = absurd (false≢true (sym a.0 ∙ b.0))
-  file_once spec script e f (inr a) (inl b) = absurd (false≢true (sym b.0 ∙ a.0))
-  file_once spec script e f (inr a) (inr b) = printed_once spec script e f a.1 b.1
+  misspelled_not : (machine : Option (List ℕ)) (spec text : List ℕ) (x : TableFault) (a : Arrays) → IsMisspelled held machine spec x → Reads held spec text → IsSection machine text a → ⊥
+  misspelled_not machine spec text x a m reads section = m.none a (subst (λ t. IsSection machine t a) (reads_same held spec text m.text told reads m.reads) section)
 
-  due_once : (words : List (List ℕ)) (e f : End) → Found held words e → Due held words f → e ≡ f
-  due_once words e f (inl a) (inl b) = a.1 ∙ sym b.1
-  due_once words e f (inl a) (inr b) = absurd (a.0 b.0 b.1 b.2)
-  due_once words e f (inr a) (inl b) = absurd (b.0 a.0 a.1 a.2)
-  due_once words e f (inr a) (inr b) =
-      let same : a.0 ∷ a.1 ∷ [] ≡ b.0 ∷ b.1 ∷ [] = sym a.2 ∙ b.2 in
-      let spec : b.0 ≡ a.0 = head_same b.0 a.0 _ _ (sym same) in
-      let script : b.1 ≡ a.1 = second_same b.0 a.0 b.1 a.1 (sym same) in
-      file_once a.0 a.1 e f a.3 (subst (λ x. DueByFile held x a.1 f) spec (subst (λ x. DueByFile held b.0 x f) script b.3))
-    where
-      head_same : (x y : List ℕ) (xs ys : List (List ℕ)) → x ∷ xs ≡ y ∷ ys → x ≡ y
-      head_same x y xs ys e = cc
+  spelled_not : (machine : Option (List ℕ)) (spec text : List ℕ) (a : Arrays) (y : TableFault) → IsSpelled held machine spec a → Reads held spec text → (y ≡ marks.Memory → ⊥) → Explains machine text y → ⊥
+  spelled_not machine spec text a y s reads not explains =
+      let here = subst (λ t. Explains machine t y) (reads_same held spec text s.text told reads s.reads) explains in
+      explained_unread machine s.text y a not here s.spells s.fits s.valid
 
-      second_same : (x y v w : List ℕ) → x ∷ v ∷ [] ≡ y ∷ w ∷ [] → v ≡ w
-      second_same x y v w e = cc
+  spelled_once : (machine : Option (List ℕ)) (spec text : List ℕ) (a b : Arrays) → IsSpelled held machine spec a → Reads held spec text → IsSection machine text b → a ≡ b
+  spelled_once machine spec text a b s reads section = s.alone b (subst (λ t. IsSection machine t b) (reads_same held spec text s.text told reads s.reads) section)
+
+  printed_once : (job : Job) (e f : End) → FoundByPrinted held job e → DueByPrinted held job f → e ≡ f
+  printed_once job e f (inl a) (inl b) = a.1 ∙ sym b.1
+  printed_once job e f (inl a) (inr (inl b)) = absurd (lacks_not held job.spec b.0 told a.0 b.1)
+  printed_once job e f (inl a) (inr (inr b)) = absurd (lacks_not held job.spec b.0 told a.0 b.1)
+  printed_once job e f (inr (inl a)) (inl b) = absurd (lacks_not held job.spec a.1.text told b.0 a.1.reads)
+  printed_once job e f (inr (inl a)) (inr (inl b)) =
+      a.2 ∙ ap (λ x. Err (refusals.Section x job.spec)) (faults_once job.machine job.spec b.0 a.0 b.2 a.1 b.1 b.3 b.4) ∙ sym b.5
+  printed_once job e f (inr (inl a)) (inr (inr b)) = absurd (misspelled_not job.machine job.spec b.0 a.0 b.2 a.1 b.1 b.3)
+  printed_once job e f (inr (inr a)) (inl b) = absurd (lacks_not held job.spec a.1.text told b.0 a.1.reads)
+  printed_once job e f (inr (inr a)) (inr (inl b)) = absurd (spelled_not job.machine job.spec b.0 a.0 b.2 a.1 b.1 b.3 b.4)
+  printed_once job e f (inr (inr a)) (inr (inr b)) =
+      let same = spelled_once job.machine job.spec b.0 a.0 b.2 a.1 b.1 b.3 in
+      script_once job.script (names_in a.0) e f a.2 (subst (λ x. DueByScript held job.script (names_in x) f) (sym same) b.4)
+
+  file_once : (job : Job) (e f : End) → FoundByFile held job e → DueByFile held job f → e ≡ f
+  file_once job e f (inl a) (inl b) = source_once job e f a.1 b.1
+  file_once job e f (inl a) (inr b) = absurd (false≢true (sym a.0 ∙ b.0))
+  file_once job e f (inr a) (inl b) = absurd (false≢true (sym b.0 ∙ a.0))
+  file_once job e f (inr a) (inr b) = printed_once job e f a.1 b.1
+
+  renewal_once : (r : Renewal) (e f : End) → FoundByRenewal held r e → DueByRenewal held r f → e ≡ f
+  renewal_once r e f (inl a) (inl b) = a.1 ∙ sym b.1
+  renewal_once r e f (inl a) (inr (inl b)) = absurd (lacks_not held r.spec b.0 told a.0 b.1)
+  renewal_once r e f (inl a) (inr (inr b)) = absurd (lacks_not held r.spec b.0 told a.0 b.1)
+  renewal_once r e f (inr (inl a)) (inl b) = absurd (lacks_not held r.spec a.1.text told b.0 a.1.reads)
+  renewal_once r e f (inr (inl a)) (inr (inl b)) =
+      a.2 ∙ ap (λ x. Err (refusals.Section x r.spec)) (faults_once r.machine r.spec b.0 a.0 b.2 a.1 b.1 b.3 b.4) ∙ sym b.5
+  renewal_once r e f (inr (inl a)) (inr (inr b)) = absurd (misspelled_not r.machine r.spec b.0 a.0 b.2 a.1 b.1 b.3)
+  renewal_once r e f (inr (inr a)) (inl b) = absurd (lacks_not held r.spec a.1.text told b.0 a.1.reads)
+  renewal_once r e f (inr (inr a)) (inr (inl b)) = absurd (spelled_not r.machine r.spec b.0 a.0 b.2 a.1 b.1 b.3 b.4)
+  renewal_once r e f (inr (inr a)) (inr (inr b)) = a.2 ∙ sym b.4
+
+  due_once : (said : Option Run) (e f : End) → Found held said e → Due held said f → e ≡ f
+  due_once said e f a b =
+      both (λ job. FoundByFile held job e) (λ job. DueByFile held job f) (λ r. FoundByRenewal held r e) (λ r. DueByRenewal held r f) (e ≡ Err refusals.Usage) (f ≡ Err refusals.Usage) (e ≡ f) said
+      (λ job. file_once job e f) (λ r. renewal_once r e f) (λ x y. x ∙ sym y) a b
 
 -- ---- how it ended is found
 
 -- where the store did not fail, a source's refusal is due
-abbrev Parts : Held → List ℕ → ℕ → ℕ → Stop → Type 0
-Parts held spec before now s = (StopsByItself held spec s × (now ≡ before)) ⊎ IsUnresolved (Rose before now) held spec s
+abbrev Parts : Held → Option (List ℕ) → List ℕ → ℕ → ℕ → Stop → Type 0
+Parts held machine spec before now s = (StopsByItself held machine spec s × (now ≡ before)) ⊎ IsUnresolved (Rose before now) held machine spec s
 
-of_parts : (held : Held) (spec : List ℕ) (before now : ℕ) (s : Stop) → (Rose before now → ⊥) → Parts held spec before now s → Stops ⊥ held spec s
-of_parts held spec before now s not (inl a) = inl a.0
-of_parts held spec before now s not (inr a) = inr (unfailed (Rose before now) held spec s not a)
-
-stops_due : (held : Held) (spec : List ℕ) (before now : ℕ) (s : Stop) → (Rose before now → ⊥) → RefusesSource held spec before now s → Stops ⊥ held spec s
-stops_due held spec before now (stop.Fault fault file) not p = of_parts held spec before now (stop.Fault fault file) not p
-stops_due held spec before now (stop.Limit limit file) not p = of_parts held spec before now (stop.Limit limit file) not p
-stops_due held spec before now (stop.Missing file) not p = of_parts held spec before now (stop.Missing file) not p
-stops_due held spec before now (stop.StoreFailed file) not p = absurd (not p.0)
+of_parts : (held : Held) (machine : Option (List ℕ)) (spec : List ℕ) (before now : ℕ) (s : Stop) → (Rose before now → ⊥) → Parts held machine spec before now s → Stops ⊥ held machine spec s
+of_parts held machine spec before now s not (inl a) = inl a.0
+of_parts held machine spec before now s not (inr a) = inr (unfailed (Rose before now) held machine spec s not a)
 
 -- what is found, or want of memory
 abbrev OrMemory : Type 0 → End → Type 0
 OrMemory Finds e = Finds ⊎ (status_of e ≡ statuses.Memory)
 
-module _ (held : Held) (spec script : List ℕ) (before now : ℕ) (not : Rose before now → ⊥) where
-  by_no_source : (e : Refusal) → HasNoSource held spec before now e → OrMemory (DueBySource held spec script (Err e)) (Err e)
-  by_no_source (refusals.Source s) p = inl (inl (s, stops_due held spec before now s not p, refl))
+module _ (held : Held) (job : Job) (before now : ℕ) (not : Rose before now → ⊥) where
+  by_no_source : (e : Refusal) → HasNoSource held job.machine job.spec before now e → OrMemory (DueBySource held job (Err e)) (Err e)
+  by_no_source (refusals.Fault f file) p = inl (inl (stop.Fault f file, of_parts held job.machine job.spec before now (stop.Fault f file) not p, refl))
+  by_no_source (refusals.Limit l file) p = inl (inl (stop.Limit l file, of_parts held job.machine job.spec before now (stop.Limit l file) not p, refl))
+  by_no_source (refusals.Missing file) p = inl (inl (stop.Missing file, of_parts held job.machine job.spec before now (stop.Missing file) not p, refl))
+  by_no_source (refusals.StoreFailed file) p = absurd (not p.0)
   by_no_source refusals.Memory p = inr refl
   by_no_source _ p = absurd p
 
-  by_no_section : (e : Refusal) → HasNoSection held spec before now e → OrMemory (FoundByPrinted held spec script (Err e)) (Err e)
-  by_no_section refusals.NoPrinted p = inl (inl (p.0, refl))
-  by_no_section refusals.PrintedFailed p = absurd (not p)
-  by_no_section (refusals.Section fault) (inl memory, quiet) = inr (ap (λ x. status_by_section x) memory)
-  by_no_section (refusals.Section fault) (inr bad, quiet) = inl (inr (inl (fault, bad, refl)))
+  by_no_section : (e : Refusal) → HasNoSection held job.machine job.spec before now e → OrMemory (FoundByPrinted held job (Err e)) (Err e)
+  by_no_section (refusals.Missing file) p = inl (inl (p.0, ap (λ n. Err (refusals.Missing n)) p.1))
+  by_no_section (refusals.StoreFailed file) p = absurd (not p.0)
+  by_no_section (refusals.Section fault file) (inl memory, named, quiet) = inr (ap (λ x. status_by_section x) memory)
+  by_no_section (refusals.Section fault file) (inr bad, named, quiet) = inl (inr (inl (fault, bad, ap (λ n. Err (refusals.Section fault n)) named)))
   by_no_section refusals.Memory p = inr refl
   by_no_section _ p = absurd p
 
-  by_no_lines : (names : Names) (e : Refusal) → HasNoLines held script names before now e → OrMemory (DueByScript held script names (Err e)) (Err e)
-  by_no_lines names refusals.NoScript p = inl (inl (p.0, refl))
-  by_no_lines names refusals.ScriptFailed p = absurd (not p)
-  by_no_lines names (refusals.Script fault) (inl memory, quiet) = inr (ap (λ x. status_by_script x) memory)
-  by_no_lines names (refusals.Script fault) (inr bad, quiet) = inl (inr (inl (fault, bad, refl)))
+  by_no_lines : (names : Names) (e : Refusal) → HasNoLines held job.script names before now e → OrMemory (DueByScript held job.script names (Err e)) (Err e)
+  by_no_lines names (refusals.Missing file) p = inl (inl (p.0, ap (λ n. Err (refusals.Missing n)) p.1))
+  by_no_lines names (refusals.StoreFailed file) p = absurd (not p.0)
+  by_no_lines names (refusals.Script fault file) (inl memory, named, quiet) = inr (ap (λ x. status_by_script x) memory)
+  by_no_lines names (refusals.Script fault file) (inr bad, named, quiet) = inl (inr (inl (fault, bad, ap (λ n. Err (refusals.Script fault n)) named)))
   by_no_lines names refusals.Memory p = inr refl
   by_no_lines names _ p = absurd p
 
-  by_tables : (e : Refusal) → HasNoTables held spec before now e → OrMemory (FoundByFile held spec script (Err e)) (Err e)
+  by_tables : (e : Refusal) → HasNoTables held job.machine job.spec before now e → OrMemory (FoundByFile held job (Err e)) (Err e)
   by_tables e (inl p) = elim (by_no_source e p.1) [ inl found ↦ inl (inl (p.0, found)) | inr memory ↦ inr memory ]
   by_tables e (inr p) = elim (by_no_section e p.1) [ inl found ↦ inl (inr (p.0, found)) | inr memory ↦ inr memory ]
 
-  given : (a : Arrays) (e : End) → Gives held spec a → DueByScript held script (names_in a) e → FoundByFile held spec script e
-  given a e (inl g) d = inl (g.0, inr (names_in a, made_names held spec a g.1, d))
+  given : (a : Arrays) (e : End) → Gives held job.machine job.spec a → DueByScript held job.script (names_in a) e → FoundByFile held job e
+  given a e (inl g) d = inl (g.0, inr (names_in a, made_names held job.machine job.spec a g.1, d))
   given a e (inr g) d = inr (g.0, inr (inr (a, g.1, d)))
 
-  by_lines : (e : Refusal) → HasTablesAlone held spec script before now e → OrMemory (FoundByFile held spec script (Err e)) (Err e)
+  by_lines : (e : Refusal) → HasTablesAlone held job before now e → OrMemory (FoundByFile held job (Err e)) (Err e)
   by_lines e p = elim (by_no_lines (names_in p.0) e p.2) [ inl found ↦ inl (given p.0 (Err e) p.1 found) | inr memory ↦ inr memory ]
 
-  by_file : (e : Refusal) → HasNoTables held spec before now e ⊎ HasTablesAlone held spec script before now e → OrMemory (FoundByFile held spec script (Err e)) (Err e)
+  by_file : (e : Refusal) → HasNoDue held job before now e → OrMemory (FoundByFile held job (Err e)) (Err e)
   by_file e (inl p) = by_tables e p
   by_file e (inr p) = by_lines e p
 
-done_found : (Gains : List ℕ → Type 0) (held : Held) (spec script : List ℕ) → ReplaysSource Gains held spec script ⊎ ReplaysPrinted Gains held spec script → FoundByFile held spec script (Ok tt)
-done_found Gains held spec script (inl r) =
-    inl (r.by_name, inr (r.names, r.has, inr (inr (r.lines, r.admitted, refl))))
-done_found Gains held spec script (inr r) = inr (r.by_name, inr (inr (r.arrays, r.spelled, inr (inr (r.lines, r.admitted, refl)))))
+done_found : (Gains : List ℕ → Type 0) (held : Held) (job : Job) → Replays Gains held job → FoundByFile held job (Ok tt)
+done_found Gains held job (inl r) = inl (r.by_name, inr (r.names, r.has, inr (inr (r.lines, r.admitted, refl))))
+done_found Gains held job (inr r) = inr (r.by_name, inr (inr (r.arrays, r.spelled, inr (inr (r.lines, r.admitted, refl)))))
 
-refused_found : (o : Outside) (words : List (List ℕ)) (e : Refusal) → HasNoFault o → IsRefused o words e → OrMemory (Found o.held words (Err e)) (Err e)
-refused_found o words e n (inl u, silent, out) = inl (inl (u.0, ap (λ x. Err x) u.1))
-refused_found o words e n (inr (spec, script, w, p), silent, out) =
-    elim (by_file o.held spec script o.store_before o.store n.store e p) [ inl found ↦ inl (inr (spec, script, w, found)) | inr memory ↦ inr memory ]
+module _ (o : Outside) (n : HasNoFault o) where
+  replay_found : (job : Job) (e : End) → EndsReplay o e job → OrMemory (FoundByFile o.held job e) e
+  replay_found job (Ok tt) p = inl (done_found _ o.held job p.0)
+  replay_found job (Err refusals.OutputFailed) p = absurd (n.output p.1)
+  replay_found job (Err refusals.Memory) p = inr refl
+  replay_found job (Err refusals.Usage) p = by_file o.held job o.store_before o.store n.store refusals.Usage p.0
+  replay_found job (Err (refusals.Fault f file)) p = by_file o.held job o.store_before o.store n.store (refusals.Fault f file) p.0
+  replay_found job (Err (refusals.Limit f file)) p = by_file o.held job o.store_before o.store n.store (refusals.Limit f file) p.0
+  replay_found job (Err (refusals.Missing file)) p = by_file o.held job o.store_before o.store n.store (refusals.Missing file) p.0
+  replay_found job (Err (refusals.StoreFailed file)) p = by_file o.held job o.store_before o.store n.store (refusals.StoreFailed file) p.0
+  replay_found job (Err (refusals.Section f file)) p = by_file o.held job o.store_before o.store n.store (refusals.Section f file) p.0
+  replay_found job (Err (refusals.Script f file)) p = by_file o.held job o.store_before o.store n.store (refusals.Script f file) p.0
+  replay_found job (Err refusals.InputFailed) p = by_file o.held job o.store_before o.store n.store refusals.InputFailed p.0
 
-ends_found : (o : Outside) (words : List (List ℕ)) (e : End) → HasNoFault o → Ends o words e → OrMemory (Found o.held words e) e
-ends_found o words (Ok tt) n p = let r = p.0 in inl (inr (r.0, r.1, r.2, done_found _ o.held r.0 r.1 r.3))
-ends_found o words (Err refusals.OutputFailed) n p = absurd (n.output p.1)
-ends_found o words (Err refusals.Usage) n p = refused_found o words refusals.Usage n p
-ends_found o words (Err (refusals.Source s)) n p = refused_found o words (refusals.Source s) n p
-ends_found o words (Err refusals.NoPrinted) n p = refused_found o words refusals.NoPrinted n p
-ends_found o words (Err refusals.PrintedFailed) n p = refused_found o words refusals.PrintedFailed n p
-ends_found o words (Err (refusals.Section fault)) n p = refused_found o words (refusals.Section fault) n p
-ends_found o words (Err refusals.NoScript) n p = refused_found o words refusals.NoScript n p
-ends_found o words (Err refusals.ScriptFailed) n p = refused_found o words refusals.ScriptFailed n p
-ends_found o words (Err (refusals.Script fault)) n p = refused_found o words (refusals.Script fault) n p
-ends_found o words (Err refusals.Memory) n p = refused_found o words refusals.Memory n p
+  renewal_found : (r : Renewal) (e : End) → EndsRenewal o e r → OrMemory (FoundByRenewal o.held r e) e
+  renewal_found r (Ok tt) p = inl (inr (inr (p.0.arrays, p.0.spelled, refl)))
+  renewal_found r (Err (refusals.StoreFailed file)) p = absurd (n.store p.0.0)
+  renewal_found r (Err (refusals.Missing file)) p = inl (inl (p.0.0.0, ap (λ n. Err (refusals.Missing n)) p.0.0.1))
+  renewal_found r (Err (refusals.Section fault file)) (((inl memory, named, quiet), same), silent) = inr (ap (λ x. status_by_section x) memory)
+  renewal_found r (Err (refusals.Section fault file)) (((inr bad, named, quiet), same), silent) = inl (inr (inl (fault, bad, ap (λ n. Err (refusals.Section fault n)) named)))
+  renewal_found r (Err refusals.Memory) p = inr refl
+  renewal_found r (Err refusals.Usage) p = absurd p.0.0
+  renewal_found r (Err (refusals.Fault f file)) p = absurd p.0.0
+  renewal_found r (Err (refusals.Limit f file)) p = absurd p.0.0
+  renewal_found r (Err (refusals.Script f file)) p = absurd p.0.0
+  renewal_found r (Err refusals.InputFailed) p = absurd p.0.0
+  renewal_found r (Err refusals.OutputFailed) p = absurd p.0.0
 
-pub complete : (o : Outside) (words : List (List ℕ)) (old new : Option (List ℕ)) (before now : ℕ) (status : Status) → EndsWith o words old new before now status → IsComplete o words old new before now status
-complete o words old new before now status w n end due = elim (ends_found o words w.0 n w.1) [
-  | inl found ↦ let same = due_once o.held n.told words w.0 end found due in
-      inl (w.2 ∙ ap (λ e. status_of e) same, subst (λ e. Tells old new before now (line_of words e)) same w.3)
+  words_found : (e : End) → EndsAtWords o e → OrMemory (e ≡ Err refusals.Usage) e
+  words_found (Ok tt) p = absurd p
+  words_found (Err refusals.Usage) p = inl refl
+  words_found (Err refusals.Memory) p = inr refl
+  words_found (Err _) p = absurd p
+
+  ends_found : (said : Option Run) (e : End) → Ends o said e → OrMemory (Found o.held said e) e
+  ends_found said e p =
+      or_else (λ job. EndsReplay o e job × (o.holds ≡ o.held)) (λ job. FoundByFile o.held job e) (λ r. EndsRenewal o e r × KeepsOthers o.held o.holds r.out) (λ r. FoundByRenewal o.held r e)
+      (EndsAtWords o e × (o.holds ≡ o.held)) (e ≡ Err refusals.Usage) (status_of e ≡ statuses.Memory) said
+      (λ job q. replay_found job e q.0) (λ r q. renewal_found r e q.0) (λ q. words_found e q.0) p
+
+pub complete : (o : Outside) (said : Option Run) (old new : Option (List ℕ)) (before now : ℕ) (status : Status) → EndsWith o said old new before now status → IsComplete o said old new before now status
+complete o said old new before now status w n end due = elim (ends_found o n said w.0 w.1) [
+  | inl found ↦ let same = due_once o.held n.told said w.0 end found due in
+      inl (w.2 ∙ ap (λ e. status_of e) same, subst (λ e. Tells old new before now (line_of e)) same w.3)
   | inr memory ↦ inr (w.2 ∙ memory)
 ]
 
 -- ---- causes
 
-stopped_of : (o : Outside) (spec : List ℕ) (s : Stop) → is_printed spec ≡ false → Parts o.held spec o.store_before o.store s → IsStoppedBy o spec s
-stopped_of o spec s e (inl a) = (e, inl a.0)
-stopped_of o spec s e (inr a) = (e, inr a)
+-- how each refusal of a replay is told in a cause
+module _ (o : Outside) (machine : Option (List ℕ)) (settings : Settings) (spec script : List ℕ) where
+  abbrev job : Job
+  job = record { machine = machine; settings = settings; spec = spec; script = script }
 
--- how each refusal is told in a cause
-module _ (o : Outside) (words : List (List ℕ)) (spec script : List ℕ) (w : AreWords words spec script) where
-  source_cause : (s : Stop) → is_printed spec ≡ false → RefusesSource o.held spec o.store_before o.store s → HasCause o words (status_of {T = Unit {0}} (Err (refusals.Source s)))
-  source_cause (stop.Fault fault file) e p = (spec, script, w, fault, file, stopped_of o spec (stop.Fault fault file) e p)
-  source_cause (stop.Limit limit file) e p = (spec, script, w, limit, file, stopped_of o spec (stop.Limit limit file) e p)
-  source_cause (stop.Missing file) e p = inr (inr (spec, script, w, inl (file, stopped_of o spec (stop.Missing file) e p)))
-  source_cause (stop.StoreFailed file) e p = inl p.0
+  abbrev said : Option Run
+  said = Some (words.Replay machine settings spec script)
 
-  no_source_cause : (e : Refusal) → is_printed spec ≡ false → HasNoSource o.held spec o.store_before o.store e → HasCause o words (status_of {T = Unit {0}} (Err e))
-  no_source_cause (refusals.Source s) b p = source_cause s b p
+  stopped_of : (s : Stop) → is_printed spec ≡ false → Parts o.held machine spec o.store_before o.store s → IsStoppedBy o s job
+  stopped_of s e (inl a) = (e, inl a.0)
+  stopped_of s e (inr a) = (e, inr a)
+
+  no_source_cause : (e : Refusal) → is_printed spec ≡ false → HasNoSource o.held machine spec o.store_before o.store e → HasCause o said (status_of {T = Unit {0}} (Err e))
+  no_source_cause (refusals.Fault f file) b p = (f, file, stopped_of (stop.Fault f file) b p)
+  no_source_cause (refusals.Limit l file) b p = (l, file, stopped_of (stop.Limit l file) b p)
+  no_source_cause (refusals.Missing file) b p = inr (inr (inl (inl (file, stopped_of (stop.Missing file) b p))))
+  no_source_cause (refusals.StoreFailed file) b p = inl p.0
   no_source_cause refusals.Memory b p = tt
   no_source_cause _ b p = absurd p
 
-  section_cause : (fault : TableFault) → is_printed spec ≡ true → (fault ≡ marks.Memory) ⊎ IsMisspelled o.held spec fault → HasCause o words (status_by_section fault)
+  section_cause : (fault : TableFault) → is_printed spec ≡ true → (fault ≡ marks.Memory) ⊎ IsMisspelled o.held machine spec fault → HasCause o said (status_by_section fault)
   section_cause marks.Memory b p = tt
   section_cause marks.NoSection b (inl e) = absurd (cc e)
-  section_cause marks.NoSection b (inr p) = (spec, script, w, b, marks.NoSection, p)
+  section_cause marks.NoSection b (inr p) = inl (b, (marks.NoSection, p))
   section_cause (marks.BadText line) b (inl e) = absurd (cc e)
-  section_cause (marks.BadText line) b (inr p) = (spec, script, w, b, marks.BadText line, p)
+  section_cause (marks.BadText line) b (inr p) = inl (b, (marks.BadText line, p))
   section_cause (marks.BadValue bad) b (inl e) = absurd (cc e)
-  section_cause (marks.BadValue bad) b (inr p) = (spec, script, w, b, marks.BadValue bad, p)
+  section_cause (marks.BadValue bad) b (inr p) = inl (b, (marks.BadValue bad, p))
 
-  no_section_cause : (e : Refusal) → is_printed spec ≡ true → HasNoSection o.held spec o.store_before o.store e → HasCause o words (status_of {T = Unit {0}} (Err e))
-  no_section_cause refusals.NoPrinted b p = inr (inr (spec, script, w, inr (inl (b, p.0))))
-  no_section_cause refusals.PrintedFailed b p = inl p
-  no_section_cause (refusals.Section fault) b p = section_cause fault b p.0
+  no_section_cause : (e : Refusal) → is_printed spec ≡ true → HasNoSection o.held machine spec o.store_before o.store e → HasCause o said (status_of {T = Unit {0}} (Err e))
+  no_section_cause (refusals.Missing file) b p = inr (inr (inl (inr (inl (b, p.0)))))
+  no_section_cause (refusals.StoreFailed file) b p = inl p.0
+  no_section_cause (refusals.Section fault file) b p = section_cause fault b p.0
   no_section_cause refusals.Memory b p = tt
   no_section_cause _ b p = absurd p
 
-  faulty : (a : Arrays) → Gives o.held spec a → (fault : ScriptFault) → (fault ≡ faults.Memory → ⊥) → (fault ≡ faults.Memory) ⊎ IsFaulty o.held script (names_in a) fault → HasCause o words statuses.Script
+  faulty : (a : Arrays) → Gives o.held machine spec a → (fault : ScriptFault) → (fault ≡ faults.Memory → ⊥) → (fault ≡ faults.Memory) ⊎ IsFaulty o.held script (names_in a) fault → HasCause o said statuses.Script
   faulty a g fault not (inl memory) = absurd (not memory)
-  faulty a g fault not (inr p) = (spec, script, w, (a, g, fault, p))
+  faulty a g fault not (inr p) = (a, g, fault, p)
 
-  script_cause : (a : Arrays) → Gives o.held spec a → (fault : ScriptFault) → (fault ≡ faults.Memory) ⊎ IsFaulty o.held script (names_in a) fault → HasCause o words (status_by_script fault)
+  script_cause : (a : Arrays) → Gives o.held machine spec a → (fault : ScriptFault) → (fault ≡ faults.Memory) ⊎ IsFaulty o.held script (names_in a) fault → HasCause o said (status_by_script fault)
   script_cause a g (faults.BadLine n) p = faulty a g (faults.BadLine n) (λ e. cc) p
   script_cause a g (faults.Twice n) p = faulty a g (faults.Twice n) (λ e. cc) p
   script_cause a g (faults.NoSession n) p = faulty a g (faults.NoSession n) (λ e. cc) p
@@ -263,35 +360,90 @@ module _ (o : Outside) (words : List (List ℕ)) (spec script : List ℕ) (w : A
   script_cause a g (faults.Full n) p = faulty a g (faults.Full n) (λ e. cc) p
   script_cause a g faults.Memory p = tt
 
-  no_lines_cause : (a : Arrays) → Gives o.held spec a → (e : Refusal) → HasNoLines o.held script (names_in a) o.store_before o.store e → HasCause o words (status_of {T = Unit {0}} (Err e))
-  no_lines_cause a g refusals.NoScript p = inr (inr (spec, script, w, inr (inr p.0)))
-  no_lines_cause a g refusals.ScriptFailed p = inl p
-  no_lines_cause a g (refusals.Script fault) p = script_cause a g fault p.0
+  no_lines_cause : (a : Arrays) → Gives o.held machine spec a → (e : Refusal) → HasNoLines o.held script (names_in a) o.store_before o.store e → HasCause o said (status_of {T = Unit {0}} (Err e))
+  no_lines_cause a g (refusals.Missing file) p = inr (inr (inl (inr (inr p.0))))
+  no_lines_cause a g (refusals.StoreFailed file) p = inl p.0
+  no_lines_cause a g (refusals.Script fault file) p = script_cause a g fault p.0
   no_lines_cause a g refusals.Memory p = tt
   no_lines_cause a g _ p = absurd p
 
-  file_cause : (e : Refusal) → HasNoTables o.held spec o.store_before o.store e ⊎ HasTablesAlone o.held spec script o.store_before o.store e → HasCause o words (status_of {T = Unit {0}} (Err e))
+  file_cause : (e : Refusal) → HasNoDue o.held job o.store_before o.store e → HasCause o said (status_of {T = Unit {0}} (Err e))
   file_cause e (inl (inl p)) = no_source_cause e p.0 p.1
   file_cause e (inl (inr p)) = no_section_cause e p.0 p.1
   file_cause e (inr p) = no_lines_cause p.0 p.1 e p.2
 
-refused_cause : (o : Outside) (words : List (List ℕ)) (e : Refusal) → IsRefused o words e → HasCause o words (status_of {T = Unit {0}} (Err e))
-refused_cause o words e (inl u, silent, out) = subst (λ x. HasCause o words (status_of {T = Unit {0}} (Err x))) (sym u.1) u.0
-refused_cause o words e (inr (spec, script, w, p), silent, out) = file_cause o words spec script w e p
+  replay_cause : (e : End) → EndsReplay o e job → HasCause o said (status_of e)
+  replay_cause (Ok tt) p = (inl p.0, p.1)
+  replay_cause (Err refusals.OutputFailed) p = inr (inl p.1)
+  replay_cause (Err refusals.Memory) p = tt
+  replay_cause (Err refusals.Usage) p = file_cause refusals.Usage p.0
+  replay_cause (Err (refusals.Fault f file)) p = file_cause (refusals.Fault f file) p.0
+  replay_cause (Err (refusals.Limit f file)) p = file_cause (refusals.Limit f file) p.0
+  replay_cause (Err (refusals.Missing file)) p = file_cause (refusals.Missing file) p.0
+  replay_cause (Err (refusals.StoreFailed file)) p = file_cause (refusals.StoreFailed file) p.0
+  replay_cause (Err (refusals.Section f file)) p = file_cause (refusals.Section f file) p.0
+  replay_cause (Err (refusals.Script f file)) p = file_cause (refusals.Script f file) p.0
+  replay_cause (Err refusals.InputFailed) p = file_cause refusals.InputFailed p.0
+
+-- the same of an upgrade
+module _ (o : Outside) (machine : Option (List ℕ)) (out spec : List ℕ) where
+  abbrev renewal : Renewal
+  renewal = record { machine = machine; out = out; spec = spec }
+
+  abbrev upgrade : Option Run
+  upgrade = Some (words.Upgrade machine out spec)
+
+  misread_cause : (fault : TableFault) → (fault ≡ marks.Memory) ⊎ IsMisspelled o.held machine spec fault → HasCause o upgrade (status_by_section fault)
+  misread_cause marks.Memory p = tt
+  misread_cause marks.NoSection (inl e) = absurd (cc e)
+  misread_cause marks.NoSection (inr p) = inr (marks.NoSection, p)
+  misread_cause (marks.BadText line) (inl e) = absurd (cc e)
+  misread_cause (marks.BadText line) (inr p) = inr (marks.BadText line, p)
+  misread_cause (marks.BadValue bad) (inl e) = absurd (cc e)
+  misread_cause (marks.BadValue bad) (inr p) = inr (marks.BadValue bad, p)
+
+  renewal_cause : (e : End) → EndsRenewal o e renewal → HasCause o upgrade (status_of e)
+  renewal_cause (Ok tt) p = (inr p.0, (p.2, p.1.1))
+  renewal_cause (Err (refusals.StoreFailed file)) p = inl p.0.0
+  renewal_cause (Err (refusals.Missing file)) p = inr (inr (inr p.0.0.0))
+  renewal_cause (Err (refusals.Section fault file)) p = misread_cause fault p.0.0.0
+  renewal_cause (Err refusals.Memory) p = tt
+  renewal_cause (Err refusals.Usage) p = absurd p.0.0
+  renewal_cause (Err (refusals.Fault f file)) p = absurd p.0.0
+  renewal_cause (Err (refusals.Limit f file)) p = absurd p.0.0
+  renewal_cause (Err (refusals.Script f file)) p = absurd p.0.0
+  renewal_cause (Err refusals.InputFailed) p = absurd p.0.0
+  renewal_cause (Err refusals.OutputFailed) p = absurd p.0.0
+
+-- the same of words that say nothing
+words_cause : (o : Outside) (said : Option Run) (e : End) → OfNothing (Unit {0}) said → EndsAtWords o e → HasCause o said (status_of e)
+words_cause o w (Ok tt) n p = absurd p
+words_cause o w (Err refusals.Usage) n p = n
+words_cause o w (Err refusals.Memory) n p = tt
+words_cause o w (Err _) n p = absurd p
 
 -- an end has its cause
-ends_cause : (o : Outside) (words : List (List ℕ)) (e : End) → Ends o words e → HasCause o words (status_of e)
-ends_cause o words (Ok tt) p = p
-ends_cause o words (Err refusals.OutputFailed) p = inr (inl p.1)
-ends_cause o words (Err refusals.Usage) p = refused_cause o words refusals.Usage p
-ends_cause o words (Err (refusals.Source s)) p = refused_cause o words (refusals.Source s) p
-ends_cause o words (Err refusals.NoPrinted) p = refused_cause o words refusals.NoPrinted p
-ends_cause o words (Err refusals.PrintedFailed) p = refused_cause o words refusals.PrintedFailed p
-ends_cause o words (Err (refusals.Section fault)) p = refused_cause o words (refusals.Section fault) p
-ends_cause o words (Err refusals.NoScript) p = refused_cause o words refusals.NoScript p
-ends_cause o words (Err refusals.ScriptFailed) p = refused_cause o words refusals.ScriptFailed p
-ends_cause o words (Err (refusals.Script fault)) p = refused_cause o words (refusals.Script fault) p
-ends_cause o words (Err refusals.Memory) p = refused_cause o words refusals.Memory p
+ends_cause : (o : Outside) (said : Option Run) (e : End) → Ends o said e → HasCause o said (status_of e)
+ends_cause o (Some (words.Replay m s spec script)) e (inl p) = replay_cause o m s spec script e p.0
+ends_cause o (Some (words.Replay m s spec script)) e (inr (inl p)) = absurd p
+ends_cause o (Some (words.Replay m s spec script)) e (inr (inr p)) = absurd p
+ends_cause o (Some (words.Upgrade m out spec)) e (inl p) = absurd p
+ends_cause o (Some (words.Upgrade m out spec)) e (inr (inl p)) = renewal_cause o m out spec e p.0
+ends_cause o (Some (words.Upgrade m out spec)) e (inr (inr p)) = absurd p
+ends_cause o (Some (words.Stream spec entry)) e (inl p) = absurd p
+ends_cause o (Some (words.Stream spec entry)) e (inr (inl p)) = absurd p
+ends_cause o (Some (words.Stream spec entry)) e (inr (inr p)) = words_cause o (Some (words.Stream spec entry)) e tt p.0
+ends_cause o (Some (words.Make lines spec)) e (inl p) = absurd p
+ends_cause o (Some (words.Make lines spec)) e (inr (inl p)) = absurd p
+ends_cause o (Some (words.Make lines spec)) e (inr (inr p)) = words_cause o (Some (words.Make lines spec)) e tt p.0
+ends_cause o None e (inl p) = absurd p
+ends_cause o None e (inr (inl p)) = absurd p
+ends_cause o None e (inr (inr p)) = words_cause o None e tt p.0
 
-pub cause : (o : Outside) (words : List (List ℕ)) (old new : Option (List ℕ)) (before now : ℕ) (status : Status) → EndsWith o words old new before now status → HasCause o words status
-cause o words old new before now status w = subst (HasCause o words) (sym w.2) (ends_cause o words w.0 w.1)
+cause : (o : Outside) (said : Option Run) (old new : Option (List ℕ)) (before now : ℕ) (status : Status) → EndsWith o said old new before now status → HasCause o said status
+cause o said old new before now status w = subst (HasCause o said) (sym w.2) (ends_cause o said w.0 w.1)
+
+-- ---- the answer
+
+pub answers : (o : Outside) (said : Option Run) (old new : Option (List ℕ)) (before now : ℕ) (status : Status) → EndsWith o said old new before now status → Answers o said old new before now status
+answers o said old new before now status w = record { cause = cause o said old new before now status w; ends = w; complete = complete o said old new before now status w }

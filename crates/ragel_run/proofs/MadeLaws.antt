@@ -1,5 +1,5 @@
 -- Specs that say the same have the same names, and scripts are the same by them.
-use Rattle.std.proofs.Common.{◌≡◌, ◌∙◌, ℕ, List, [], ◌∷◌, map, length, refl, sym, ap, subst}
+use Rattle.std.proofs.Common.{◌≡◌, ◌∙◌, ℕ, List, [], ◌∷◌, map, length, Option, refl, sym, ap, subst}
 use Rattle.std.specs.Prelude.{◌↔◌}
 use Rattle.std.proofs.lemmas.List.{length-map}
 use Rattle.rl_types.specs.declared.alphabet.Alphabet.{Alphabet}
@@ -25,8 +25,8 @@ use Rattle.ragel_run.specs.Files.{AreUsed, AreNamesOf, IsMade, HasNames}
 use Rattle.ragel_run.proofs.NameLaws.{has_same, script_alike}
 
 -- the names of tables are those of the source that they are made for
-abbrev pub made_names : (held : Held) (name : List ℕ) (a : Arrays) → IsMade held name a → HasNames held name (names_in a)
-made_names held name a m = record {
+abbrev pub made_names : (held : Held) (machine : Option (List ℕ)) (name : List ℕ) (a : Arrays) → IsMade held machine name a → HasNames held machine name (names_in a)
+made_names held machine name a m = record {
   source = m.source;
   has = m.has;
   tests = m.made.tests;

@@ -6,13 +6,13 @@ use Rattle.rl_model.specs.Trees.{TestsOf, AreTestsHonest, tree_machine}
 use Rattle.rl_arrays.specs.declared.arrays.Arrays.{Arrays}
 use Rattle.rl_replay.specs.declared.script.Line.{Line}
 use Rattle.rl_make.proofs.NameLaws.{names_alike}
-use Rattle.rl_playback.specs.Defaults.{default_settings}
+use Rattle.rl_run.specs.declared.sessions.Settings.{Settings}
 use Rattle.rl_script.specs.TableNames.{names_in}
 use Rattle.ragel_run.specs.Files.{IsMadeFor}
 use Rattle.ragel_run.specs.Replay.{names_of, prescribed, written_by}
 
-pub lines_prescribed : (spec : Spec) (a : Arrays) → IsMadeFor spec a → (lines : List Line) (tests : TestsOf (specification_of spec)) → AreTestsHonest (specification_of spec) tests →
-    written_by a lines ≡ prescribed spec tests lines
-lines_prescribed spec a made lines tests honest =
-    made.writes tests honest default_settings lines
-    ∙ names_alike (names_in a) (names_of spec) made.entries (tree_machine (specification_of spec) tests) default_settings lines
+pub lines_prescribed : (spec : Spec) (a : Arrays) → IsMadeFor spec a → (settings : Settings) (lines : List Line) (tests : TestsOf (specification_of spec)) → AreTestsHonest (specification_of spec) tests →
+    written_by a settings lines ≡ prescribed spec settings tests lines
+lines_prescribed spec a made settings lines tests honest =
+    made.writes tests honest settings lines
+    ∙ names_alike (names_in a) (names_of spec) made.entries (tree_machine (specification_of spec) tests) settings lines

@@ -1,80 +1,70 @@
--- How the steps of a replay put together say how it ends.
-use Rattle.std.proofs.Common.{◌≡◌, ◌∙◌, ◌⊎◌, inl, inr, ℕ, List, Option, Result, Ok, Err, subst}
-use Rattle.std.specs.Prelude.{IfOk, IfErr}
-use Rattle.rl_io.specs.Outside.{Held, Appends, AppendsPrefix}
+-- How the steps of a run put together say how it ends.
+use Rattle.std.proofs.Common.{◌≡◌, ◌∙◌, inl, inr, ℕ, List, Option, Some, None, Result, Ok, Err, refl, sym, ap, subst}
+use Rattle.rl_io.specs.Outside.{Held, Appends, AppendsPrefix, Writes, KeepsOthers}
 use Rattle.rl_arrays.specs.declared.arrays.Arrays.{Arrays}
 use Rattle.rl_io.specs.declared.outside.SinkFault.{SinkFault}
 use Rattle.rl_io.specs.declared.outside.SinkFault.TheVariants as sink
 use Rattle.rl_types.specs.declared.status.Status.{Status}
 use Rattle.rl_replay.specs.declared.script.Line.{Line}
 use Rattle.rl_script.specs.TableNames.{names_in}
-use Rattle.ragel_run.specs.declared.refusal.Refusal.{Refusal}
-use Rattle.ragel_run.specs.declared.refusal.Refusal.TheVariants as refusals
+use Rattle.rl_words.specs.Runs as words
+use Rattle.rl_words.specs.Runs.{Run, run_of}
+use Rattle.rl_words.specs.Told.{texts, RefusesWords}
+use Rattle.rl_words.specs.declared.fault.WordsFault.{WordsFault}
+use Rattle.rl_words.specs.declared.fault.WordsFault.TheVariants as words_fault
+use denote.Ref.{Bor}
+use Rattle.rl_ends.specs.declared.refusal.Refusal.{Refusal}
+use Rattle.rl_ends.specs.declared.refusal.Refusal.TheVariants as refusals
+use Rattle.rl_ends.specs.Told.{Tells, TellsAs, line_of}
 use Rattle.ragel_run.specs.Files.{Gives, HasScript}
-use Rattle.ragel_run.specs.Replay.{AreWords, Outside, ReplaysSource, ReplaysPrinted, Replays, HasNoTables, Refuses, IsRefused, Ends, written_by}
-use Rattle.ragel_run.specs.Reads.{ReadsTables, GivesLines, GivesDue, WritesLines}
-use Rattle.ragel_run.specs.Told.{Tells, TellsAs, EndsTelling, EndsWith, line_of}
+use Rattle.ragel_run.specs.Replay.{Job, Replays, HasNoSection, HasNoDue, written_by}
+use Rattle.ragel_run.specs.Upgrade.{Renewal, HasNoRenewal}
+use Rattle.ragel_run.specs.Reads.{ReadsSection, ReadsTables, GivesLines, GivesDue, WritesLines, WritesFile, IsNewSection, UpgradesAs}
+use Rattle.ragel_run.specs.Ends.{Outside, outside, IsSilent, EndsReplay, EndsRenewal, Ends, EndsTelling, EndsWith}
 use Rattle.ragel_run.proofs.MadeLaws.{made_names}
 use Rattle.ragel_run.proofs.Prescribed.{lines_prescribed}
 
--- ---- two files
+-- ---- a replay
 
 -- the lines that tables write are due
-replays_by : (held : Held) (spec script : List ℕ) (a : Arrays) (lines : List Line) (items : List ℕ) → Gives held spec a → HasScript held script (names_in a) lines → items ≡ written_by a lines →
-    ReplaysSource (λ due. items ≡ due) held spec script ⊎ ReplaysPrinted (λ due. items ≡ due) held spec script
-replays_by held spec script a lines items (inl (e, m)) h same = inl (record {
+replays_by : (held : Held) (job : Job) (a : Arrays) (lines : List Line) (items : List ℕ) → Gives held job.machine job.spec a → HasScript held job.script (names_in a) lines
+    → items ≡ written_by a job.settings lines → Replays (λ due. items ≡ due) held job
+replays_by held job a lines items (inl (e, m)) h same = inl (record {
   by_name = e;
   names = names_in a;
-  has = made_names held spec a m;
+  has = made_names held job.machine job.spec a m;
   lines = lines;
   admitted = h;
-  gains = λ tests honest. same ∙ lines_prescribed m.source a m.made lines tests honest;
+  gains = λ tests honest. same ∙ lines_prescribed m.source a m.made job.settings lines tests honest;
 })
-replays_by held spec script a lines items (inr (e, s)) h same = inr (record { by_name = e; arrays = a; spelled = s; lines = lines; admitted = h; gains = same })
+replays_by held job a lines items (inr (e, s)) h same = inr (record { by_name = e; arrays = a; spelled = s; lines = lines; admitted = h; gains = same })
 
 -- the same by what stood before the tables were read
-pub lines_given : (held mid_held : Held) (spec script : List ℕ) (a : Arrays) (before mid now : ℕ) (r : Result (List ℕ) Refusal) → mid_held ≡ held →
-    ReadsTables held spec before mid (Ok a) →
-    GivesLines mid_held script a mid now r → GivesDue held spec script before now r
-lines_given held mid_held spec script a before mid now r same given p =
-    given_of r (subst (λ n. GivesLines held script a n now r) given.1 (subst (λ x. GivesLines x script a mid now r) same p))
+pub lines_given : (held mid_held : Held) (job : Job) (a : Arrays) (before mid now : ℕ) (r : Result (List ℕ) Refusal) → mid_held ≡ held →
+    ReadsTables held job.machine job.spec before mid (Ok a) →
+    GivesLines mid_held job.script a job.settings mid now r → GivesDue held job before now r
+lines_given held mid_held job a before mid now r same given p =
+    given_of r (subst (λ n. GivesLines held job.script a job.settings n now r) given.1 (subst (λ x. GivesLines x job.script a job.settings mid now r) same p))
   where
-    given_of : (r : Result (List ℕ) Refusal) → GivesLines held script a before now r → GivesDue held spec script before now r
-    given_of (Ok items) p = (replays_by held spec script a p.0 items given.0 p.1 p.2, p.3)
+    given_of : (r : Result (List ℕ) Refusal) → GivesLines held job.script a job.settings before now r → GivesDue held job before now r
+    given_of (Ok items) p = (replays_by held job a p.0 items given.0 p.1 p.2, p.3)
     given_of (Err e) p = inr (a, given.0, p)
 
--- ---- the words name them
-module _ (held : Held) (words : List (List ℕ)) (spec script : List ℕ) (before now : ℕ) (w : AreWords words spec script) where
-  pub lines_due : (r : Result (List ℕ) Refusal) → GivesDue held spec script before now r → IfOk r (λ items. Replays (λ lines. items ≡ lines) held words)
-  lines_due (Ok items) p = (spec, script, w, p.0)
-  lines_due (Err e) p = tt
-
-  pub lines_quiet : (r : Result (List ℕ) Refusal) → GivesDue held spec script before now r → IfOk r (λ items. now ≡ before)
-  lines_quiet (Ok items) p = p.1
-  lines_quiet (Err e) p = tt
-
-  pub lines_refused : (r : Result (List ℕ) Refusal) → GivesDue held spec script before now r → IfErr r (Refuses held words before now)
-  lines_refused (Ok items) p = tt
-  lines_refused (Err e) p = inr (spec, script, w, p)
-
--- ---- the output
-
 -- where no lines are due, nothing was written
-not_by_output : (o : Outside) (words : List (List ℕ)) → IsRefused o words refusals.OutputFailed → ⊥
-not_by_output o words (inl u, silent, out) = absurd (cc u.1)
-not_by_output o words (inr (spec, script, w, inl (inl p)), silent, out) = p.1
-not_by_output o words (inr (spec, script, w, inl (inr p)), silent, out) = p.1
-not_by_output o words (inr (spec, script, w, inr p), silent, out) = p.2
+not_by_output : (held : Held) (job : Job) (before now : ℕ) → HasNoDue held job before now refusals.OutputFailed → ⊥
+not_by_output held job before now (inl (inl p)) = p.1
+not_by_output held job before now (inl (inr p)) = p.1
+not_by_output held job before now (inr p) = p.2
 
-pub refused : (o : Outside) (words : List (List ℕ)) (e : Refusal) → IsRefused o words e → Ends {T = Unit {0}} o words (Err e)
-refused o words refusals.OutputFailed p = absurd (not_by_output o words p)
-refused o words _ p = p
+pub refused : (held : Held) (store_before store : ℕ) (old new : Option (List ℕ)) (before now : ℕ) (job : Job) (e : Refusal) → HasNoDue held job store_before store e → new ≡ old → now ≡ before →
+    EndsReplay {T = Unit {0}} (outside held held store_before store old new before now) (Err e) job
+refused held store_before store old new before now job refusals.OutputFailed p s q = absurd (not_by_output held job store_before store p)
+refused held store_before store old new before now job refusals.Memory p s q = (s, q)
+refused held store_before store old new before now job _ p s q = (p, (s, q))
 
 -- the lines that are due gain what is due
-gains_by : (Gains : List ℕ → Type 0) (held : Held) (spec script items : List ℕ) →
-    ReplaysSource (λ due. items ≡ due) held spec script ⊎ ReplaysPrinted (λ due. items ≡ due) held spec script → Gains items →
-    ReplaysSource Gains held spec script ⊎ ReplaysPrinted Gains held spec script
-gains_by Gains held spec script items (inl r) g = inl (record {
+gains : (Gains : List ℕ → Type 0) (held : Held) (job : Job) (items : List ℕ) → Replays (λ due. items ≡ due) held job → Gains items → Replays Gains held job
+gains Gains held job items (inl r) g = inl (record {
   by_name = r.by_name;
   names = r.names;
   has = r.has;
@@ -82,33 +72,79 @@ gains_by Gains held spec script items (inl r) g = inl (record {
   admitted = r.admitted;
   gains = λ tests honest. subst Gains (r.gains tests honest) g;
 })
-gains_by Gains held spec script items (inr r) g =
+gains Gains held job items (inr r) g =
     inr (record { by_name = r.by_name; arrays = r.arrays; spelled = r.spelled; lines = r.lines; admitted = r.admitted; gains = subst Gains r.gains g })
 
-gains : (Gains : List ℕ → Type 0) (held : Held) (words : List (List ℕ)) (items : List ℕ) → Replays (λ due. items ≡ due) held words → Gains items → Replays Gains held words
-gains Gains held words items r g = (r.0, r.1, r.2, gains_by Gains held r.0 r.1 items r.3 g)
-
--- the words name two files, so want of memory needs no cause
-no_memory_by : (held : Held) (spec script items : List ℕ) (before now : ℕ) → ReplaysSource (λ due. items ≡ due) held spec script ⊎ ReplaysPrinted (λ due. items ≡ due) held spec script →
-    HasNoTables held spec before now refusals.Memory
-no_memory_by held spec script items before now (inl s) = inl (s.by_name, tt)
-no_memory_by held spec script items before now (inr s) = inr (s.by_name, tt)
-
-no_memory : (held : Held) (words : List (List ℕ)) (items : List ℕ) (before now : ℕ) → Replays (λ due. items ≡ due) held words → Refuses held words before now refusals.Memory
-no_memory held words items before now r = inr (r.0, r.1, r.2, inl (no_memory_by held r.0 r.1 items before now r.3))
-
 -- where lines are due, they are written
-pub written : (o : Outside) (words : List (List ℕ)) (items : List ℕ) (r : Result (Unit {0}) Refusal) → Replays (λ due. items ≡ due) o.held words → o.store ≡ o.store_before →
-    WritesLines items o.written_before o.written o.output_before o.output r → Ends o words r
-written o words items (Ok done) d s p = (gains (Appends o.written_before o.written) o.held words items d p.0, (s, p.1))
-written o words items (Err refusals.OutputFailed) d s p = (gains (AppendsPrefix o.written_before o.written) o.held words items d p.0, p.1, s)
-written o words items (Err refusals.Memory) d s p = (no_memory o.held words items o.store_before o.store d, p.0, p.1)
-written o words items (Err _) d s p = absurd p
+pub written : (held : Held) (store_before store : ℕ) (old new : Option (List ℕ)) (before now : ℕ) (job : Job) (items : List ℕ) (r : Result (Unit {0}) Refusal) →
+    GivesDue held job store_before store (Ok items) → WritesLines items old new before now r → EndsReplay (outside held held store_before store old new before now) r job
+written held store_before store old new before now job items (Ok done) d p = (gains (Appends old new) held job items d.0 p.0, (d.1, p.1))
+written held store_before store old new before now job items (Err refusals.OutputFailed) d p = (gains (AppendsPrefix old new) held job items d.0 p.0, p.1, d.1)
+written held store_before store old new before now job items (Err refusals.Memory) d p = p
+written held store_before store old new before now job items (Err _) d p = absurd p
 
 -- the same of bytes that are the same
 pub of_bytes : (bytes items : List ℕ) (old new : Option (List ℕ)) (before now : ℕ) (r : Result (Unit {0}) Refusal) → bytes ≡ items →
     WritesLines bytes old new before now r → WritesLines items old new before now r
 of_bytes bytes items old new before now r same p = subst (λ x. WritesLines x old new before now r) same p
+
+-- ---- an upgrade
+
+-- a store that holds what it held keeps every name
+pub keeps_same : (held holds : Held) (name : List ℕ) → holds ≡ held → KeepsOthers held holds name
+keeps_same held holds name same = subst (λ x. KeepsOthers held x name) (sym same) (kept held)
+  where
+    kept : (held : Held) → KeepsOthers held held name
+    kept None = tt
+    kept (Some held) = λ other no. refl
+
+-- the same of a later one
+pub keeps_later : (held mid holds : Held) (name : List ℕ) → mid ≡ held → KeepsOthers mid holds name → KeepsOthers held holds name
+keeps_later held mid holds name same p = subst (λ x. KeepsOthers x holds name) same p
+
+pub not_renewed : (held holds : Held) (r : Renewal) (before now : ℕ) (e : Refusal) → holds ≡ held → HasNoSection held r.machine r.spec before now e → HasNoRenewal held holds r before now e
+not_renewed held holds r before now (refusals.StoreFailed file) same p = (p.0, inl (p.1, same))
+not_renewed held holds r before now _ same p = (p, same)
+
+pub renewed : (held mid_held holds : Held) (r : Renewal) (a : Arrays) (text bytes : List ℕ) (before mid now : ℕ) (end : Result (Unit {0}) Refusal) → mid_held ≡ held →
+    ReadsSection held r.machine r.spec before mid (Ok a) → IsNewSection a text → bytes ≡ text → WritesFile r.out bytes mid_held holds mid now end → UpgradesAs r held holds before now end
+renewed held mid_held holds r a text bytes before mid now end same reads new is p =
+    by_end end (subst (λ n. WritesFile r.out text held holds n now end) reads.1 (subst (λ x. WritesFile r.out text x holds mid now end) same (subst (λ t. WritesFile r.out t mid_held holds mid now end) is p)))
+  where
+    by_end : (end : Result (Unit {0}) Refusal) → WritesFile r.out text held holds before now end → UpgradesAs r held holds before now end
+    by_end (Ok done) p = (record { arrays = a; spelled = reads.0; holds_it = subst (λ t. Writes held holds r.out t) new.is p.0; read = new.read; shows = new.shows }, p.1)
+    by_end (Err (refusals.StoreFailed file)) p = (p.0, inr (p.1, (a, reads.0)))
+    by_end (Err refusals.Memory) p = (tt, p)
+    by_end (Err _) p = absurd p
+
+-- ---- forms of words
+
+pub ends_renewal : (o : Outside) (r : Renewal) (end : Result (Unit {0}) Refusal) → UpgradesAs r o.held o.holds o.store_before o.store end → IsSilent o → EndsRenewal o end r
+ends_renewal o r (Ok done) p s = (p.0, s, p.1)
+ends_renewal o r (Err e) p s = (p, s)
+
+-- want of memory before anything was done
+pub no_memory : (o : Outside) (said : Option Run) → IsSilent o → o.store ≡ o.store_before → o.holds ≡ o.held → Ends {T = Unit {0}} o said (Err refusals.Memory)
+no_memory o (Some (words.Replay machine settings spec script)) s n h = inl (s, h)
+no_memory o (Some (words.Upgrade machine out spec)) s n h = inr (inl (((tt, h), s), keeps_same o.held o.holds out h))
+no_memory o (Some (words.Stream spec entry)) s n h = inr (inr ((s, n), h))
+no_memory o (Some (words.Make lines spec)) s n h = inr (inr ((s, n), h))
+no_memory o None s n h = inr (inr ((s, n), h))
+
+-- words that say nothing
+pub no_words : (o : Outside) (said : Option Run) → said ≡ None → IsSilent o → o.store ≡ o.store_before → o.holds ≡ o.held → Ends {T = Unit {0}} o said (Err refusals.Usage)
+no_words o said none s n h = subst (λ x. Ends {T = Unit {0}} o x (Err refusals.Usage)) (sym none) (inr (inr ((s, n), h)))
+
+-- what is said of the words as the parser took them is said of the words
+pub said_here : (o : Outside) (words : List (List ℕ)) (seen items : List (Bor (List ℕ))) (said : Option Run) (end : Result (Unit {0}) Refusal) → seen ≡ items → texts items ≡ words → run_of (texts seen) ≡ said →
+    Ends o said end → Ends o (run_of words) end
+said_here o words seen items said end same is e p = subst (λ x. Ends o x end) (sym e ∙ ap (λ xs. run_of (texts xs)) same ∙ ap (λ ws. run_of ws) is) p
+
+pub nothing_here : (words : List (List ℕ)) (seen items : List (Bor (List ℕ))) (e : WordsFault) → seen ≡ items → texts items ≡ words → e ≡ words_fault.Usage → RefusesWords (run_of (texts seen)) e → run_of words ≡ None
+nothing_here words seen items e same is usage refused =
+    ap (λ ws. run_of ws) (sym is) ∙ ap (λ xs. run_of (texts xs)) (sym same) ∙ subst (λ x. RefusesWords (run_of (texts seen)) x) usage refused
+
+-- ---- the line
 
 -- what the error output answered tells what it gained
 tells_by : {T : Type 0} (old new : Option (List ℕ)) (before now : ℕ) (line : List ℕ) (told : Result T SinkFault) →
@@ -117,7 +153,7 @@ tells_by old new before now line (Ok done) p = inl p
 tells_by old new before now line (Err sink.Failed) p = inr (inl p)
 tells_by old new before now line (Err sink.Memory) p = inr (inr p)
 
-pub ends_with : {T : Type 0} (o : Outside) (words : List (List ℕ)) (old new : Option (List ℕ)) (before now : ℕ) (status : Status) (told : Result T SinkFault) →
-    EndsTelling o words old new before now status told →
-    EndsWith o words old new before now status
-ends_with o words old new before now status told (end, ends, same, tells) = (end, ends, same, tells_by old new before now (line_of words end) told tells)
+pub ends_with : {T : Type 0} (o : Outside) (said : Option Run) (old new : Option (List ℕ)) (before now : ℕ) (status : Status) (told : Result T SinkFault) →
+    EndsTelling o said old new before now status told →
+    EndsWith o said old new before now status
+ends_with o said old new before now status told (end, ends, same, tells) = (end, ends, same, tells_by old new before now (line_of end) told tells)

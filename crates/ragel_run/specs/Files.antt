@@ -1,7 +1,6 @@
--- What the files that a replay names come to: the tables of a source or of a printed file, and the lines of a script (this
--- profile).
-use Rattle.std.specs.Prelude.{◌≡◌, ◌≢◌, ◌==◌, ◌⊎◌, ◌↔◌, ℕ, Bool, true, false, List, None, Ok, Err, codes}
-use Rattle.std.specs.List.{ends_with}
+-- What the files that the words name come to: the tables of a source or of a printed file, and the lines of a script. Of
+-- several machines in a file the one with the given name is meant, or else the first (this profile).
+use Rattle.std.specs.Prelude.{◌≡◌, ◌≢◌, ◌⊎◌, ◌↔◌, ℕ, true, false, List, Option, Ok, Err}
 use Rattle.rl_sets.specs.Sets.{In}
 use Rattle.rl_io.specs.Outside.{Held, Reads}
 use Rattle.rl_arrays.specs.declared.arrays.Arrays.{Arrays}
@@ -20,13 +19,10 @@ use Rattle.rl_replay.specs.declared.script.Line.{Line}
 use Rattle.rl_replay.specs.declared.script.ScriptFault.{ScriptFault}
 use Rattle.rl_replay.specs.Sessions.{Names, script_of}
 use Rattle.rl_script.specs.TableNames.{names_in}
+use Rattle.rl_words.specs.Runs.{is_printed}
 use Rattle.ragel_run.specs.Sources.{HasSource}
 
 -- ---- tables
-
--- a printed file is one whose name ends in `.c`; any other file is a source
-abbrev pub is_printed : List ℕ → Bool
-is_printed name = ends_with (λ a b. a == b) name (codes ".c")
 
 -- whatever honest tests say, the names are exactly those of the actions that stand in a list of Error, or of a state that the
 -- entries reach, or of a step from one
@@ -51,45 +47,45 @@ pub record IsMadeFor (spec : Spec) (a : Arrays) : Type 0 where
   pub conditions : (names_in a).conditions ≡ condition_names spec
 
 -- the text under a name is a source, for which these arrays are made
-pub record IsMade (held : Held) (name : List ℕ) (a : Arrays) : Type 0 where
+pub record IsMade (held : Held) (machine : Option (List ℕ)) (name : List ℕ) (a : Arrays) : Type 0 where
   pub source : Spec
-  pub has : HasSource held name source
+  pub has : HasSource held machine name source
   pub made : IsMadeFor source a
 
 -- the text under a name is a source, for whose expressions there are honest tests, and a script on it may name these
-pub record HasNames (held : Held) (name : List ℕ) (names : Names) : Type 0 where
+pub record HasNames (held : Held) (machine : Option (List ℕ)) (name : List ℕ) (names : Names) : Type 0 where
   pub source : Spec
-  pub has : HasSource held name source
+  pub has : HasSource held machine name source
   pub tests : HasHonestTests (specification_of source)
   pub named : AreNamesOf source names
 
--- the first section of a text spells these arrays, whose numbers fit their type, and they are valid
-pub record IsSection (text : List ℕ) (a : Arrays) : Type 0 where
-  pub spells : IsRead None text a
+-- the first such section of a text spells these arrays, whose numbers fit their type, and they are valid
+pub record IsSection (machine : Option (List ℕ)) (text : List ℕ) (a : Arrays) : Type 0 where
+  pub spells : IsRead machine text a
   pub fits : HasNumbers a
   pub valid : Valid a
 
--- the first section of the text under a name spells these arrays, and no others; their numbers fit their type, and they are
+-- the first such section of the text under a name spells these arrays, and no others; their numbers fit their type, and they are
 -- valid
-pub record IsSpelled (held : Held) (name : List ℕ) (a : Arrays) : Type 0 where
+pub record IsSpelled (held : Held) (machine : Option (List ℕ)) (name : List ℕ) (a : Arrays) : Type 0 where
   pub text : List ℕ
   pub reads : Reads held name text
-  pub spells : IsRead None text a
+  pub spells : IsRead machine text a
   pub fits : HasNumbers a
   pub valid : Valid a
-  pub alone : (b : Arrays) → IsSection text b → a ≡ b
+  pub alone : (b : Arrays) → IsSection machine text b → a ≡ b
 
--- it spells none: the text has no section, or the first is not right
-pub record IsMisspelled (held : Held) (name : List ℕ) (fault : TableFault) : Type 0 where
+-- it spells none: the text has no such section, or the first is not right
+pub record IsMisspelled (held : Held) (machine : Option (List ℕ)) (name : List ℕ) (fault : TableFault) : Type 0 where
   pub text : List ℕ
   pub reads : Reads held name text
   pub not_memory : fault ≢ Memory
-  pub explains : Explains None text fault
-  pub none : (b : Arrays) → IsSection text b → ⊥
+  pub explains : Explains machine text fault
+  pub none : (b : Arrays) → IsSection machine text b → ⊥
 
 -- the file under a name gives these arrays
-abbrev pub Gives : Held → List ℕ → Arrays → Type 0
-Gives held name a = ((is_printed name ≡ false) × IsMade held name a) ⊎ ((is_printed name ≡ true) × IsSpelled held name a)
+abbrev pub Gives : Held → Option (List ℕ) → List ℕ → Arrays → Type 0
+Gives held machine name a = ((is_printed name ≡ false) × IsMade held machine name a) ⊎ ((is_printed name ≡ true) × IsSpelled held machine name a)
 
 -- ---- scripts
 

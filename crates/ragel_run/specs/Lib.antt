@@ -1,5 +1,6 @@
 pub mod Sources
 pub mod Files
 pub mod Replay
-pub mod Told
+pub mod Upgrade
+pub mod Ends
 pub mod Reads

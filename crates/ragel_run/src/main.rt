@@ -1,25 +1,25 @@
 //! The program `ragel-run`: it replays a script on a source or on printed tables, and prints each call of the machine's
-//! actions.
+//! actions; and it writes printed tables anew in their second version.
 #![tactic(auto)]
 
+mod files;
 mod outside;
-mod refusal;
 mod replay;
 mod section;
 mod source;
 mod tables;
 #[cfg(test)]
 mod tests;
-mod told;
+mod upgrade;
+mod words;
 
-pub use refusal::Refusal;
 pub use replay::replay;
+use rl_ends::{Refusal, status_for, tell};
 use rl_io::{FileStore, InputSource, OutputSink};
 use rl_types::{Status, Text};
 use std::env;
 use std::io::ErrorKind;
 use std::process::ExitCode;
-use told::{status_for, tell};
 
 // The words behind the program's own name. A word that is not UTF-8 is no name of a file.
 fn words_given(rt: &HostRuntime) -> Result<Vec<Text>, Refusal> {
@@ -37,8 +37,8 @@ fn words_given(rt: &HostRuntime) -> Result<Vec<Text>, Refusal> {
     Ok(words)
 }
 
-// The replay over the files and the standard streams.
-fn replay_here(rt: &HostRuntime) -> Status {
+// The run over the files and the standard streams.
+fn run_here(rt: &HostRuntime) -> Status {
     let mut err = OutputSink::new(rt.stderr());
     match words_given(rt) {
         Ok(words) => replay(
@@ -51,12 +51,12 @@ fn replay_here(rt: &HostRuntime) -> Status {
         ),
         Err(refusal) => {
             let end = Err(refusal);
-            let _ = tell(rt.alloc(), &[], &end, &mut err);
+            let _ = tell(rt.alloc(), &end, &mut err);
             status_for(&end)
         }
     }
 }
 
 fn main(rt: HostRuntime) -> ExitCode {
-    ExitCode::from(replay_here(&rt).code())
+    ExitCode::from(run_here(&rt).code())
 }

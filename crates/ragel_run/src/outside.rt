@@ -4,7 +4,8 @@ ghost use Rattle.rl_replay.specs.Sessions.{fed, script_of};
 ghost use Rattle.rl_script.specs.TableNames.{names_in};
 ghost use Rattle.ragel_run.specs.Reads.{IsNoScript, ReadsScript, WritesLines};
 
-use crate::refusal::Refusal;
+use crate::files::file_name;
+use rl_ends::Refusal;
 use rl_io::{Sink, SinkFault, Store, StoreFault};
 use rl_replay::{Script, ScriptFault};
 use rl_script::{admit, read_script};
@@ -38,15 +39,18 @@ pub fn script_under<S: Store>(
     ensures small { IfOk result (λ s. length (fed s.lines) < 2 ^ 63) }
     ensures same { S.held store.new ≡ S.held store.old }
 {
+    let Ok(file) = file_name(alloc, name) else {
+        return Err(Refusal::Memory);
+    };
     let text = match store.read(name) {
         Ok(text) => text,
-        Err(StoreFault::Missing) => return Err(Refusal::NoScript),
-        Err(StoreFault::Failed) => return Err(Refusal::ScriptFailed),
+        Err(StoreFault::Missing) => return Err(Refusal::Missing(file)),
+        Err(StoreFault::Failed) => return Err(Refusal::StoreFailed(file)),
         Err(StoreFault::Memory) => return Err(Refusal::Memory),
     };
     match script_for(alloc, &text, tables) {
         Ok(script) => Ok(script),
-        Err(fault) => Err(Refusal::Script(fault)),
+        Err(fault) => Err(Refusal::Script(fault, file)),
     }
 }
 

@@ -1,20 +1,23 @@
-// The tables of a source's first machine.
-ghost use Rattle.std.specs.Prelude.{◌≡◌, IfOk, IfErr, All};
+// The tables of a source's machine.
+ghost use Rattle.std.specs.Prelude.{◌≡◌, Some, None, IfOk, IfErr, MatchOption};
+ghost use Rattle.std.specs.List.{find};
+ghost use Rattle.std.specs.Option.{option_copied};
 ghost use Rattle.rl_model.specs.WellFormed.{IsWellFormed};
 ghost use Rattle.rl_model.specs.RefusedNode.{IsBuildable};
-ghost use Rattle.rl_resolve.specs.Answers.{HasEntry, IsFormed, HasRunning};
+ghost use Rattle.rl_resolve.specs.Answers.{is_running};
 ghost use Rattle.rl_resolve.specs.Refusals.{file_name};
-ghost use Rattle.rl_resolve.specs.declared.answer.Runs.TheVariants as runs;
-ghost use Rattle.rl_includes.specs.declared.unrolled.Stop.TheVariants as stop;
-ghost use Rattle.ragel_run.specs.declared.refusal.Refusal.TheVariants as refusals;
+ghost use Rattle.rl_ends.specs.declared.refusal.Refusal.TheVariants as refusals;
+ghost use Rattle.rl_words.specs.Told.{text_in};
+ghost use Rattle.ragel_run.specs.Sources.{IsToRun, running};
 ghost use Rattle.ragel_run.specs.Files.{IsMadeFor};
-ghost use Rattle.ragel_run.specs.Reads.{IsRefusedSpec, ReadsSource, ReadsSpecs, ReadsTrees, TellsNode, refusal_by_names, refusal_by_text};
+ghost use Rattle.ragel_run.specs.Reads.{AreFormed, IsRefusedSpec, ReadsSource, ReadsSpecs, ReadsTrees, TellsNode, refusal_by_names, refusal_by_text};
 
-use crate::refusal::Refusal;
+use crate::files;
+use crate::files::name_of;
+use rl_ends::Refusal;
 use rl_files::read_file;
 use rl_grammar::ReadFault;
 use rl_grammar::syntax::Syntax;
-use rl_includes::Stop;
 use rl_io::{Store, StoreFault};
 use rl_make::{BuildFault, BuildRefusal, tables_of};
 use rl_model::Spec;
@@ -57,10 +60,10 @@ fn refusal_by_text(unread: Unread, file: Name) -> Refusal
     ensures { result ≡ refusal_by_text unread file }
 {
     match unread {
-        Unread::Missing => Refusal::Source(Stop::Missing(file)),
-        Unread::Failed => Refusal::Source(Stop::StoreFailed(file)),
-        Unread::Fault(fault) => Refusal::Source(Stop::Fault(fault, file)),
-        Unread::Limit(limit) => Refusal::Source(Stop::Limit(limit, file)),
+        Unread::Missing => Refusal::Missing(file),
+        Unread::Failed => Refusal::StoreFailed(file),
+        Unread::Fault(fault) => Refusal::Fault(fault, file),
+        Unread::Limit(limit) => Refusal::Limit(limit, file),
         Unread::Memory => Refusal::Memory,
     }
 }
@@ -70,41 +73,69 @@ fn refusal_by_names(fault: ResolveFault) -> Refusal
     ensures { result ≡ refusal_by_names fault }
 {
     match fault {
-        ResolveFault::Fault(fault, file) => Refusal::Source(Stop::Fault(fault, file)),
-        ResolveFault::Limit(limit, file) => Refusal::Source(Stop::Limit(limit, file)),
-        ResolveFault::Missing(file) => Refusal::Source(Stop::Missing(file)),
-        ResolveFault::StoreFailed(file) => Refusal::Source(Stop::StoreFailed(file)),
+        ResolveFault::Fault(fault, file) => Refusal::Fault(fault, file),
+        ResolveFault::Limit(limit, file) => Refusal::Limit(limit, file),
+        ResolveFault::Missing(file) => Refusal::Missing(file),
+        ResolveFault::StoreFailed(file) => Refusal::StoreFailed(file),
         ResolveFault::Memory => Refusal::Memory,
     }
 }
 
-// A name of these bytes.
-fn name_of(alloc: Global, bytes: &[u8]) -> Result<Name, Memory>
-    ensures { IfOk result (λ name. name ≡ bytes.now) }
+// Which machine is to run.
+fn runs_of<'a>(machine: Option<&'a str>) -> Runs<'a>
+    ensures { IsToRun (text_in machine.entry) result }
 {
-    match Vec::from_slice(alloc, bytes) {
-        Ok(bytes) => Ok(Name::new(bytes)),
-        Err(_) => Err(Memory),
+    match machine {
+        Some(name) => Runs::Named(name),
+        None => Runs::First,
     }
 }
 
 // The specifications of the source under a name, one for each of its machines.
-fn read_specs<S: Store>(alloc: Global, name: &str, store: &mut S) -> Result<List<Spec>, Refusal>
-    ensures reads { ReadsSpecs (S.held store.old) name.now (S.faults store.old) (S.faults store.new) result }
-    ensures formed { IfOk result (All IsFormed) }
-    ensures running { IfOk result (HasRunning runs.First) }
+fn read_specs<S: Store>(
+    alloc: Global,
+    machine: Option<&str>,
+    name: &str,
+    store: &mut S,
+) -> Result<List<Spec>, Refusal>
+    ensures reads { ReadsSpecs (S.held store.old) (text_in machine.entry) name.now (S.faults store.old) (S.faults store.new) result }
+    ensures formed { IfOk result (λ specs. AreFormed (text_in machine.entry) specs) }
     ensures same { S.held store.new ≡ S.held store.old }
 {
-    let Ok(file) = name_of(alloc, name.as_bytes()) else {
+    let Ok(file) = files::file_name(alloc, name) else {
         return Err(Refusal::Memory);
     };
     let trees = match read_trees(alloc, name, store) {
         Ok(trees) => trees,
         Err(unread) => return Err(refusal_by_text(unread, file)),
     };
-    match resolve(alloc, trees, &file, Runs::First, store) {
+    match resolve(alloc, trees, &file, runs_of(machine), store) {
         Ok(specs) => Ok(specs),
         Err(fault) => Err(refusal_by_names(fault)),
+    }
+}
+
+// Whether a machine has this name, and an entry.
+fn is_named(spec: &Spec, name: &str) -> bool
+    ensures { result ≡ is_running name.now spec.now }
+{
+    name.as_bytes() == spec.machine.bytes() && !spec.entries.as_slice().is_empty()
+}
+
+// The first machine with this name and an entry.
+fn find_named<'a>(specs: &'a [Spec], name: &str) -> Option<&'a Spec>
+    ensures { option_copied result ≡ find (is_running name.now) specs.now }
+{
+    specs.iter().find(|spec| is_named(spec, name))
+}
+
+// The machine that runs.
+fn find_running<'a>(specs: &'a [Spec], machine: Option<&str>) -> Option<&'a Spec>
+    ensures { MatchOption result (running (text_in machine.entry) specs.now ≡ None) (λ s. running (text_in machine.entry) specs.now ≡ Some s.now) }
+{
+    match machine {
+        Some(name) => find_named(specs, name),
+        None => specs.first(),
     }
 }
 
@@ -120,16 +151,16 @@ fn file_named(alloc: Global, files: &[Name], number: u64) -> Result<Name, Memory
 
 // A limit in a file.
 fn limit_at(kind: LimitKind, place: Place, file: Name) -> Refusal
-    ensures { result ≡ refusals.Source (stop.Limit (record { kind = kind; place = place }) file) }
+    ensures { result ≡ refusals.Limit (record { kind = kind; place = place }) file }
 {
-    Refusal::Source(Stop::Limit(Limit { kind, place }, file))
+    Refusal::Limit(Limit { kind, place }, file)
 }
 
 // A fault in a file.
 fn fault_at(kind: FaultKind, place: Place, file: Name) -> Refusal
-    ensures { result ≡ refusals.Source (stop.Fault (record { kind = kind; place = place }) file) }
+    ensures { result ≡ refusals.Fault (record { kind = kind; place = place }) file }
 {
-    Refusal::Source(Stop::Fault(Fault { kind, place }, file))
+    Refusal::Fault(Fault { kind, place }, file)
 }
 
 // How a refused node is told.
@@ -162,16 +193,21 @@ fn tables_for(alloc: Global, spec: &Spec) -> Result<Tables, Refusal>
     }
 }
 
-// The tables of the first machine of the source under a name. It has an entry, since it is to run.
-pub fn read_source<S: Store>(alloc: Global, name: &str, store: &mut S) -> Result<Tables, Refusal>
-    ensures reads { ReadsSource (S.held store.old) name.now (S.faults store.old) (S.faults store.new) result }
+// The tables of the machine of this name, or of the first, of the source under a name. It has an entry, since it is to run.
+pub fn read_source<S: Store>(
+    alloc: Global,
+    machine: Option<&str>,
+    name: &str,
+    store: &mut S,
+) -> Result<Tables, Refusal>
+    ensures reads { ReadsSource (S.held store.old) (text_in machine.entry) name.now (S.faults store.old) (S.faults store.new) result }
     ensures same { S.held store.new ≡ S.held store.old }
 {
-    let specs = match read_specs(alloc, name, store) {
+    let specs = match read_specs(alloc, machine, name, store) {
         Ok(specs) => specs,
         Err(refusal) => return Err(refusal),
     };
-    match specs.as_slice().first() {
+    match find_running(specs.as_slice(), machine) {
         Some(spec) => tables_for(alloc, spec),
         None => Err(Refusal::Memory),
     }

@@ -923,6 +923,143 @@ const FAILURES: [&Row; 5] = [
     &NO_WORDS,
 ];
 
+// Words with options.
+const LITTLE_STACK: Row = Row {
+    files: &[
+        (
+            "m.rl",
+            "%%{ machine m; action deep { fcall main; } main := 'c' @deep; }%%",
+        ),
+        ("t", "open s\npiece s \"ccc\"\nend s\n"),
+    ],
+    words: &["--stack", "2", "m.rl", "t"],
+    out: "s do deep 0 call main\ns do deep 1 call main\ns do deep 2 call main\ns stop stack-full 3\ns end error 3\n",
+    ..EMPTY
+};
+
+const SHORT_LOOK: Row = Row {
+    files: &[
+        (
+            "m.rl",
+            "%%{ machine m; action again { if (q) { fexec r; } } main := any* $again; }%%",
+        ),
+        ("t", "open s\npiece s \"abc\"\npick s again 3 1=0\nend s\n"),
+    ],
+    words: &["m.rl", "--look=1", "t"],
+    out: "s do again 0\ns do again 1\ns do again 2 exec 0\ns stop back 3\ns end error 3\n",
+    ..EMPTY
+};
+
+const SHORT_TOKEN: Row = Row {
+    files: &[
+        (
+            "m.rl",
+            "%%{ machine m; action w { } main := |* [a-z]+ => w; *|; }%%",
+        ),
+        ("t", "open s\npiece s \"abcd\"\nend s\n"),
+    ],
+    words: &["m.rl", "t", "--token", "3"],
+    out: "s stop overlong 3\ns end error 3\n",
+    ..EMPTY
+};
+
+const NAMED: Row = Row {
+    files: &[
+        (
+            "m.rl",
+            "%%{ machine m; main := 'a'; machine n; action x { } main := 'b' $x; }%%",
+        ),
+        ("t", "open s\npiece s \"b\"\nend s\n"),
+    ],
+    words: &["--machine", "n", "m.rl", "t"],
+    out: "s do x 0\ns end final 1\n",
+    ..EMPTY
+};
+
+const ABSENT: Row = Row {
+    files: &[
+        ("m.rl", "%%{ machine m; main := 'a'; }%%"),
+        ("t", "open s\nend s\n"),
+    ],
+    words: &["--machine", "n", "m.rl", "t"],
+    status: Status::Source,
+    err: "m.rl:1:1: F4 no machine\n",
+    ..EMPTY
+};
+
+const UNMADE: Row = Row {
+    files: &[
+        (
+            "m.rl",
+            "%%{ machine m; main := 'a'; machine n; x = 'b'; }%%",
+        ),
+        ("t", "open s\nend s\n"),
+    ],
+    words: &["--machine", "n", "m.rl", "t"],
+    status: Status::Source,
+    err: "m.rl:1:1: F18 no instance\n",
+    ..EMPTY
+};
+
+const NAMED_SECTION: Row = Row {
+    files: &[("x.c", SECTION), ("t", "open s\nend s\n")],
+    words: &["--machine", "n", "x.c", "t"],
+    status: Status::Tables,
+    err: "x.c: no section\n",
+    ..EMPTY
+};
+
+const WIDE_STACK: Row = Row {
+    words: &["--stack", "1025", "m.rl", "t"],
+    status: Status::Usage,
+    out: "",
+    err: "usage\n",
+    ..RAN
+};
+
+const RENEWED: Row = Row {
+    files: &[("x.c", SECTION)],
+    words: &["--upgrade", "y.c", "x.c"],
+    ..EMPTY
+};
+
+const NOT_RENEWED: Row = Row {
+    store_fails: 3,
+    status: Status::Outside,
+    err: "y.c: store failed\n",
+    ..RENEWED
+};
+
+const NOTHING_TO_RENEW: Row = Row {
+    files: &[],
+    status: Status::Outside,
+    err: "x.c: missing\n",
+    ..RENEWED
+};
+
+const SOURCE_TO_RENEW: Row = Row {
+    words: &["--upgrade", "y.c", "m.rl"],
+    status: Status::Usage,
+    out: "",
+    err: "usage\n",
+    ..RAN
+};
+
+const OPTIONS: [&Row; 12] = [
+    &LITTLE_STACK,
+    &SHORT_LOOK,
+    &SHORT_TOKEN,
+    &NAMED,
+    &ABSENT,
+    &UNMADE,
+    &NAMED_SECTION,
+    &WIDE_STACK,
+    &RENEWED,
+    &NOT_RENEWED,
+    &NOTHING_TO_RENEW,
+    &SOURCE_TO_RENEW,
+];
+
 // What a replay left.
 #[derive(Drop)]
 struct Left {
@@ -1024,6 +1161,12 @@ fn sessions_come(rt: HostRuntime) -> Result<(), Fail> {
 #[test]
 fn sections_come(rt: HostRuntime) -> Result<(), Fail> {
     assert_eq!(rt; first_wrong(rt.alloc(), &SECTIONS)?, None);
+    Ok(())
+}
+
+#[test]
+fn options_come(rt: HostRuntime) -> Result<(), Fail> {
+    assert_eq!(rt; first_wrong(rt.alloc(), &OPTIONS)?, None);
     Ok(())
 }
 

@@ -3,6 +3,7 @@ use Rattle.std.proofs.Common.{◌≡◌, ℕ, ◌+◌, Bool, true, false, cond, 
 use Rattle.std.specs.Str.{bytes_eq}
 use Rattle.std.proofs.lemmas.List.Sums.{sum_by-cons}
 use Rattle.std.proofs.lemmas.Slice.Eq.{bytes_eq-Decides}
+use Rattle.rl_run.specs.declared.sessions.Settings.{Settings}
 use Rattle.rl_arrays.specs.declared.arrays.Arrays.{Arrays}
 use Rattle.rl_arrays.specs.TableMachine.{machine}
 use Rattle.rl_replay.specs.declared.script.Line.{Line}
@@ -48,9 +49,9 @@ live_count ended (z ∷ zs) distinct h =
 abbrev refused : Bool → Bool → Option SessionFault
 refused known full = cond known (Some Twice) (cond full (Some Full) None)
 
-module _ (script past : List Line) (a : Arrays) (log : Log) (sessions : SessionsValue) (st : Stands script past a log sessions) where
+module _ (settings : Settings) (script past : List Line) (a : Arrays) (log : Log) (sessions : SessionsValue) (st : Stands settings script past a log sessions) where
   abbrev At : List ℕ → Option SessionValue → Type 0
-  At s o = StandsAt (names_in a) (machine a) s (only s script) (only s past) log.books o
+  At s o = StandsAt (names_in a) (machine a) settings s (only s script) (only s past) log.books o
 
   -- a session that is live by the lines so far
   pub finds_live : (s : List ℕ) → is_opened (only s past) ≡ true → is_ended (only s past) ≡ false → HasLive s sessions
@@ -63,7 +64,7 @@ module _ (script past : List Line) (a : Arrays) (log : Log) (sessions : Sessions
   closed : (x : SessionValue) → find x.name sessions.all ≡ Some x → is_ended (only x.name past) ≡ x.is_closed
   closed x e =
       let P : Option SessionValue → Type 0 = λ o. At x.name o in
-      let is : IsOpened (names_in a) (machine a) x.name (only x.name script) (only x.name past) log.books x = subst P e (st.each x.name) in
+      let is : IsOpened (names_in a) (machine a) settings x.name (only x.name script) (only x.name past) log.books x = subst P e (st.each x.name) in
       is.ended
 
   counted : length (script_side.live past) ≡ live sessions.all

@@ -3,6 +3,7 @@ use Rattle.std.proofs.Common.{◌≡◌, ℕ, Bool, true, false, cond, not, List
 use Rattle.std.specs.Str.{bytes_eq}
 use Rattle.std.proofs.lemmas.Grind.{flat_map-append}
 use Rattle.std.proofs.lemmas.Slice.Eq.{bytes_eq-Decides}
+use Rattle.rl_run.specs.declared.sessions.Settings.{Settings}
 use Rattle.rl_run.specs.declared.calls.Outcome.{Outcome}
 use Rattle.rl_run.specs.declared.calls.Call.{Call}
 use Rattle.rl_run.specs.Machine.{Machine, Session}
@@ -18,7 +19,6 @@ use Rattle.rl_script.specs.TableNames.{names_in}
 use Rattle.rl_sessions.specs.SessionsValue.{SessionValue, SessionsValue, find, verdict_in}
 use Rattle.rl_playback.specs.declared.books.Books.{Books}
 use Rattle.rl_playback.specs.declared.log.Log.{Log}
-use Rattle.rl_playback.specs.Defaults.{default_settings}
 use Rattle.rl_playback.specs.Deeds.{left_text, left_texts}
 use Rattle.rl_playback.specs.Stands.{outcome_of, IsOpened, StandsAt, AreDistinct, Stands}
 use Rattle.rl_playback.proofs.Finds.{names_of, found_or}
@@ -28,15 +28,15 @@ verdict_same : (m : Machine ℕ) (over : Option Outcome) (t : Session ℕ) → v
 verdict_same m None t = refl
 verdict_same m (Some o) t = refl
 
-module _ (script : List Line) (a : Arrays) (books : Books) where
+module _ (settings : Settings) (script : List Line) (a : Arrays) (books : Books) where
   abbrev names : Names
   names = names_in a
 
   abbrev At : List ℕ → SessionValue → Type 0
-  At s x = IsOpened names (machine a) s (only s script) (only s script) books x
+  At s x = IsOpened names (machine a) settings s (only s script) (only s script) books x
 
   abbrev left_of : List ℕ → Part
-  left_of s = left names (machine a) default_settings script s
+  left_of s = left names (machine a) settings script s
 
   abbrev stays : List ℕ → Bool
   stays s = not (is_ended (only s script))
@@ -78,24 +78,24 @@ module _ (script : List Line) (a : Arrays) (books : Books) where
       ∙ ap (λ t. left_text a x ++ t) (all_left xs distinct.1 (λ s y e. h s y (behind x xs distinct.0 s y e)))
 
 -- all that a replay writes
-pub whole_text : (script : List Line) (a : Arrays) (log : Log) (sessions : SessionsValue) → Stands script script a log sessions →
-    log.text.items ++ left_texts sessions.tables sessions.all ≡ written (names_in a) (machine a) default_settings script
-whole_text script a log sessions st =
+pub whole_text : (settings : Settings) (script : List Line) (a : Arrays) (log : Log) (sessions : SessionsValue) → Stands settings script script a log sessions →
+    log.text.items ++ left_texts sessions.tables sessions.all ≡ written (names_in a) (machine a) settings script
+whole_text settings script a log sessions st =
     ap (λ v. log.text.items ++ left_texts v sessions.all) st.machine_tables
     ∙ ap (λ t. t ++ left_texts a sessions.all) st.text
-    ∙ ap (λ t. texts (parts_from (names_in a) (machine a) default_settings script [] script) ++ t)
-    (sym (ap (λ ss. texts (map (left (names_in a) (machine a) default_settings script) (filter (λ s. not (is_ended (only s script))) ss))) (sym st.names)
-    ∙ all_left script a log.books sessions.all st.distinct (λ s x e. at s (find s sessions.all) (st.each s) x e)))
-    ∙ sym (flat_map-append (λ (part : Part). part.text) (parts_from (names_in a) (machine a) default_settings script [] script) (map (left (names_in a) (machine a) default_settings script) (live script)))
+    ∙ ap (λ t. texts (parts_from (names_in a) (machine a) settings script [] script) ++ t)
+    (sym (ap (λ ss. texts (map (left (names_in a) (machine a) settings script) (filter (λ s. not (is_ended (only s script))) ss))) (sym st.names)
+    ∙ all_left settings script a log.books sessions.all st.distinct (λ s x e. at s (find s sessions.all) (st.each s) x e)))
+    ∙ sym (flat_map-append (λ (part : Part). part.text) (parts_from (names_in a) (machine a) settings script [] script) (map (left (names_in a) (machine a) settings script) (live script)))
   where
-    at : (s : List ℕ) (o : Option SessionValue) → StandsAt (names_in a) (machine a) s (only s script) (only s script) log.books o → (x : SessionValue) → o ≡ Some x →
-        IsOpened (names_in a) (machine a) s (only s script) (only s script) log.books x
+    at : (s : List ℕ) (o : Option SessionValue) → StandsAt (names_in a) (machine a) settings s (only s script) (only s script) log.books o → (x : SessionValue) → o ≡ Some x →
+        IsOpened (names_in a) (machine a) settings s (only s script) (only s script) log.books x
     at s None h x e = absurd (no e)
       where
         no : None ≡ Some x → ⊥
         no e = cc
     at s (Some y) h x e =
-        let P : SessionValue → Type 0 = λ v. IsOpened (names_in a) (machine a) s (only s script) (only s script) log.books v in
+        let P : SessionValue → Type 0 = λ v. IsOpened (names_in a) (machine a) settings s (only s script) (only s script) log.books v in
         subst P (same e) h
       where
         same : Some y ≡ Some x → y ≡ x

@@ -24,7 +24,6 @@ use Rattle.rl_sessions.specs.SessionsValue.{SessionValue, SessionsValue, IsWindo
 use Rattle.rl_sessions.specs.Runs.{Takes, Becomes}
 use Rattle.rl_playback.specs.declared.books.Books.{Books}
 use Rattle.rl_playback.specs.declared.log.Log.{Log}
-use Rattle.rl_playback.specs.Defaults.{default_settings}
 use Rattle.rl_playback.specs.Deeds.{next_of, HasStopped, HasNotStopped, Adds, Opens, Idles, FeedsOn, Feeds, Finishes}
 use Rattle.rl_playback.specs.Deeds as deed
 use Rattle.rl_playback.specs.Log.{tables_of, LogsCall, stop_text}
@@ -79,7 +78,7 @@ none_some o e = absurd (cc)
 true_false : true ≡ false → ⊥
 true_false e = cc
 
-module _ (script past : List Line) (a : Arrays) (line : Line) (kinded : IsKinded (machine a)) where
+module _ (settings : Settings) (script past : List Line) (a : Arrays) (line : Line) (kinded : IsKinded (machine a)) where
   abbrev s : List ℕ
   s = session_of line.event
 
@@ -96,10 +95,10 @@ module _ (script past : List Line) (a : Arrays) (line : Line) (kinded : IsKinded
   names = names_in a
 
   abbrev Come : List Line → Books → SessionValue → Type 0
-  Come lines books x = HasCome names (machine a) s own lines books x
+  Come lines books x = HasCome names (machine a) settings s own lines books x
 
   abbrev added : List ℕ
-  added = gain names a kinded s own at line
+  added = gain names a settings kinded s own at line
 
   -- what is known where the line runs its session on
   record Ready (log : Log) (x : SessionValue) : Type 0 where
@@ -109,38 +108,38 @@ module _ (script past : List Line) (a : Arrays) (line : Line) (kinded : IsKinded
     come : Come at log.books x
 
   run_of : (log : Log) (x : SessionValue) (r : Ready log x) (over : Option Outcome) → x.over ≡ over →
-      host_run names (machine a) default_settings own at ≡ run_pair r.come.calls (Some (outcome_of over)) x.session
+      host_run names (machine a) settings own at ≡ run_pair r.come.calls (Some (outcome_of over)) x.session
   run_of log x r over e = r.come.run ∙ ap (λ p. run_pair r.come.calls (Some (outcome_of p)) x.session) e
 
   -- a session that goes on
   goes : (log : Log) (x : SessionValue) (r : Ready log x) → x.over ≡ None → (first mid : Log) → first.books ≡ log.books → first.text ≡ log.text → tables_of first ≡ a → first.session.now ≡ s →
       mid.is_full ≡ false → (u : Session ℕ) (o : Outcome) →
-      Played LogsCall first (run_on false (machine a) default_settings (input_at (machine a).width 0 (fed at ++ feeding_of line.event) (is_end line.event)) x.session) mid (rest (Some o) u) →
-      Moved names a kinded s own at line first mid u o
+      Played LogsCall first (run_on false (machine a) settings (input_at (machine a).width 0 (fed at ++ feeding_of line.event) (is_end line.event)) x.session) mid (rest (Some o) u) →
+      Moved names a settings kinded s own at line first mid u o
   goes log x r e first mid same_books same_text at_tables at_session room u o p =
       let P : Books → Type 0 = λ books. Counts (machine a) s own r.come.calls books in
-      moves names a kinded s own at line r.opened r.open_yet r.limit r.come.calls x.session u o first mid (run_of log x r None e)
+      moves names a settings kinded s own at line r.opened r.open_yet r.limit r.come.calls x.session u o first mid (run_of log x r None e)
       (told a s own r.come.calls first mid _ (rest (Some o) u) (plays LogsCall first mid _ p.log (rest (Some o) u) p.chain p.calls) room at_tables at_session
       (subst P (sym same_books) r.come.counts))
 
   -- what the log and the sessions are before the line, with the line's session as the log's
-  module _ (log : Log) (sessions : SessionsValue) (st : Stands script past a log sessions) (rest_lines : List Line) (whole : script ≡ past ++ line ∷ rest_lines)
+  module _ (log : Log) (sessions : SessionsValue) (st : Stands settings script past a log sessions) (rest_lines : List Line) (whole : script ≡ past ++ line ∷ rest_lines)
       (opened : is_opened at ≡ true) (open_yet : is_ended at ≡ false) (opens_none : opened_by line.event ≡ None) where
     limit_here : length (fed at ++ feeding_of line.event) < 2 ^ 63
     limit_here =
         let fits = fed_fits s script past line rest_lines whole st.small in
         let e : length (fed (only s (past ++ line ∷ []))) ≡ length (fed at ++ feeding_of line.event) =
-        ap (λ lines. length (fed lines)) (own_line script past a line) ∙ ap length (fed_more at line) in
+        ap (λ lines. length (fed lines)) (own_line settings script past a line) ∙ ap length (fed_more at line) in
         omega arith
 
     ready : (x : SessionValue) → find s sessions.all ≡ Some x → Ready log x
     ready x found =
-        let P : Option SessionValue → Type 0 = λ o. StandsAt names (machine a) s own at log.books o in
-        let is : IsOpened names (machine a) s own at log.books x = subst P found (st.each s) in
+        let P : Option SessionValue → Type 0 = λ o. StandsAt names (machine a) settings s own at log.books o in
+        let is : IsOpened names (machine a) settings s own at log.books x = subst P found (st.each s) in
         record { opened = opened; open_yet = open_yet; limit = limit_here; come = is.come (sym is.ended ∙ open_yet) }
 
-    was : (x : SessionValue) → find s sessions.all ≡ Some x → IsOpened names (machine a) s own at log.books x
-    was x found = let P : Option SessionValue → Type 0 = λ o. StandsAt names (machine a) s own at log.books o in subst P found (st.each s)
+    was : (x : SessionValue) → find s sessions.all ≡ Some x → IsOpened names (machine a) settings s own at log.books x
+    was x found = let P : Option SessionValue → Type 0 = λ o. StandsAt names (machine a) settings s own at log.books o in subst P found (st.each s)
 
     no_names : filter_map (λ l. opened_by l.event) (line ∷ []) ≡ []
     no_names = rw opens_none refl
@@ -151,25 +150,25 @@ module _ (script past : List Line) (a : Arrays) (line : Line) (kinded : IsKinded
     -- behind a line that runs its session on, or finds it stopped
     put : (y : SessionValue) (x : SessionValue) (next : Log) (later : SessionsValue) → find s sessions.all ≡ Some x → y.name ≡ x.name →
         later ≡ record sessions { all = replaced s y sessions.all } → tables_of next ≡ a → next.is_full ≡ false → Aside s log.books next.books →
-        IsOpened names (machine a) s own now next.books y → next.text.items ≡ log.text.items ++ added → Stands script (past ++ line ∷ []) a next later
+        IsOpened names (machine a) settings s own now next.books y → next.text.items ≡ log.text.items ++ added → Stands settings script (past ++ line ∷ []) a next later
     put y x next later found named others tables room aside stands text =
         let y_named = named ∙ find_name s sessions.all x found in
         let all_is : later.all ≡ replaced s y sessions.all = ap (λ (v : SessionsValue). v.all) others in
         let D : List SessionValue → Type 0 = λ all. AreDistinct all in
-        let P : Option SessionValue → Type 0 = λ o. StandsAt names (machine a) s own now next.books o in
-        stepped script past a line log sessions next later st tables
-        (ap (λ (v : SessionsValue). v.tables) others ∙ st.machine_tables) (ap (λ (v : SessionsValue). v.settings) others ∙ st.settings) room
+        let P : Option SessionValue → Type 0 = λ o. StandsAt names (machine a) settings s own now next.books o in
+        stepped settings script past a line log sessions next later st tables
+        (ap (λ (v : SessionsValue). v.tables) others ∙ st.machine_tables) (ap (λ (v : SessionsValue). v.settings) others ∙ st.bounds) room
         (same_names later (ap names_of all_is ∙ names_replaced s y y_named sessions.all))
         (subst D (sym all_is) (distinct_replaced s y y_named sessions.all st.distinct))
         (λ t e. ap (find t) all_is ∙ find_other s y y_named t sessions.all e) aside
         (subst P (sym (ap (find s) all_is ∙ find_replaced s y y_named sessions.all x found)) stands)
-        (text ∙ ap (λ more. log.text.items ++ more) (sym (gained_own script past a line)))
+        (text ∙ ap (λ more. log.text.items ++ more) (sym (gained_own settings script past a line)))
 
     -- the session that a line finds
     found_there : (x : SessionValue) × (find s sessions.all ≡ Some x)
     found_there = go (find s sessions.all) (st.each s)
       where
-        go : (o : Option SessionValue) → StandsAt names (machine a) s own at log.books o → (x : SessionValue) × (o ≡ Some x)
+        go : (o : Option SessionValue) → StandsAt names (machine a) settings s own at log.books o → (x : SessionValue) × (o ≡ Some x)
         go None h = absurd (no (ap is_some h.opened) opened)
           where
             no : is_opened at ≡ false → is_opened at ≡ true → ⊥
@@ -200,13 +199,13 @@ module _ (script past : List Line) (a : Arrays) (line : Line) (kinded : IsKinded
       moved_on : (x y : SessionValue) (r : Ready log x) → x.over ≡ None → (mid : Log) → mid.is_full ≡ false → (o : Outcome) (input : Input) →
           input ≡ input_at (machine a).width 0 (fed at ++ feeding_of line.event) (is_end line.event) →
           Played LogsCall first (run_on false (machine sessions.tables) sessions.settings input x.session) mid (rest (Some o) y.session) →
-          Moved names a kinded s own at line first mid y.session o × Between s first mid
+          Moved names a settings kinded s own at line first mid y.session o × Between s first mid
       moved_on x y r over_none mid room o input input_is p =
           let P : Arrays → Type 0 = λ v. Played LogsCall first (run_on false (machine v) sessions.settings input x.session) mid (rest (Some o) y.session) in
           let Q : Settings → Type 0 = λ v. Played LogsCall first (run_on false (machine a) v input x.session) mid (rest (Some o) y.session) in
-          let R : Input → Type 0 = λ v. Played LogsCall first (run_on false (machine a) default_settings v x.session) mid (rest (Some o) y.session) in
-          let q : Played LogsCall first (run_on false (machine a) default_settings (input_at (machine a).width 0 (fed at ++ feeding_of line.event) (is_end line.event)) x.session) mid (rest (Some o) y.session)
-          = subst R input_is (subst Q st.settings (subst P st.machine_tables p)) in (
+          let R : Input → Type 0 = λ v. Played LogsCall first (run_on false (machine a) settings v x.session) mid (rest (Some o) y.session) in
+          let q : Played LogsCall first (run_on false (machine a) settings (input_at (machine a).width 0 (fed at ++ feeding_of line.event) (is_end line.event)) x.session) mid (rest (Some o) y.session)
+          = subst R input_is (subst Q st.bounds (subst P st.machine_tables p)) in (
             goes log x r over_none first mid refl refl st.tables is_own room y.session o q,
             between a s first mid _ (rest (Some o) y.session) (plays LogsCall first mid _ q.log (rest (Some o) y.session) q.chain q.calls) room st.tables is_own,
           )
@@ -235,7 +234,7 @@ module _ (script past : List Line) (a : Arrays) (line : Line) (kinded : IsKinded
       at_width y bytes w = let P : Arrays → Type 0 = λ v. IsWindowOf (machine v).width bytes y in subst P st.machine_tables w
 
       -- a piece is run
-      fed_on : (last : Log) (later : SessionsValue) → is_end line.event ≡ false → FeedsOn s sessions later first last (feeding_of line.event) → Stands script (past ++ line ∷ []) a last later
+      fed_on : (last : Log) (later : SessionsValue) → is_end line.event ≡ false → FeedsOn s sessions later first last (feeding_of line.event) → Stands settings script (past ++ line ∷ []) a last later
       fed_on last later not_end f =
           let t = f.taken in
           let x = t.earlier in
@@ -252,7 +251,7 @@ module _ (script past : List Line) (a : Arrays) (line : Line) (kinded : IsKinded
           put y x last later found t.takes.name t.becomes.others
           (f.adds.tables ∙ aside.same_log.tables ∙ st.tables) (f.adds.room ∙ f.room) (aside_of s first f.mid last.books aside f.adds.books)
           (record {
-            opened = opened_now names a kinded s own at line opened;
+            opened = opened_now names a settings kinded s own at line opened;
             ended = ended_more at line open_yet ∙ not_end ∙ sym (t.takes.is_closed ∙ t.becomes.was_live);
             come = λ _. record {
               calls = moved.calls;
@@ -260,7 +259,7 @@ module _ (script past : List Line) (a : Arrays) (line : Line) (kinded : IsKinded
               counts = subst C (sym f.adds.books) moved.counts;
               window = λ e. subst W (sym (fed_more at line)) (at_width y (fed at ++ feeding_of line.event) (runs.window e (fed at) (its_window x (r.come.window over_none))));
               stopped = λ outcome e. stops_only f.outcome outcome
-                  (λ ended. never_ends (machine a) default_settings (input_of (machine a).width now) (ended_more at line open_yet ∙ not_end) (host (machine a) own) [] moved.calls
+                  (λ ended. never_ends (machine a) settings (input_of (machine a).width now) (ended_more at line open_yet ∙ not_end) (host (machine a) own) [] moved.calls
                   (fresh ((machine a).entry (entry_of names now))) y.session (moved.run ∙ ap (λ p. run_pair moved.calls (Some p) y.session) ended))
                   (sym runs.over ∙ e);
             };
@@ -276,7 +275,7 @@ module _ (script past : List Line) (a : Arrays) (line : Line) (kinded : IsKinded
           Come now log.books y × (added ≡ end_text (machine a) s (host (machine a) own) (rest (Some (Stopped cause)) x.session) (is_end line.event))
       stays x r cause e y same_session same_over =
           let run = run_of log x r (Some (Stopped cause)) e in
-          let on = stays_stopped names a kinded s own at line opened open_yet limit_here r.come.calls x.session cause run in (
+          let on = stays_stopped names a settings kinded s own at line opened open_yet limit_here r.come.calls x.session cause run in (
             record {
               calls = r.come.calls;
               run = on ∙ ap (λ v. run_pair r.come.calls (Some (Stopped cause)) v) (sym same_session)
@@ -285,32 +284,32 @@ module _ (script past : List Line) (a : Arrays) (line : Line) (kinded : IsKinded
               window = λ h. none_some (Stopped cause) (sym h ∙ (same_over ∙ e));
               stopped = λ outcome h. r.come.stopped outcome (sym same_over ∙ h);
             },
-            gain_stopped names a kinded s own at line opened open_yet limit_here r.come.calls x.session cause run,
+            gain_stopped names a settings kinded s own at line opened open_yet limit_here r.come.calls x.session cause run,
           )
 
       -- a piece of a session that has stopped does nothing
-      idle : is_end line.event ≡ false → HasStopped s sessions → Stands script (past ++ line ∷ []) a first sessions
+      idle : is_end line.event ≡ false → HasStopped s sessions → Stands settings script (past ++ line ∷ []) a first sessions
       idle not_end stopped =
           let (x, found) = found_there in
           let r = ready x found in
           let (cause, e) = error_stopped (machine a) x r.come.stopped (is_error x found stopped) in
           let (come, gain_is) = stays x r cause e x refl refl in
-          let P : Option SessionValue → Type 0 = λ o. StandsAt names (machine a) s own now log.books o in
-          let is : IsOpened names (machine a) s own at log.books x = was x found in
-          stepped script past a line log sessions first sessions st st.tables st.machine_tables st.settings st.room (same_names sessions refl) st.distinct (λ t e. refl) (aside_none s log.books)
+          let P : Option SessionValue → Type 0 = λ o. StandsAt names (machine a) settings s own now log.books o in
+          let is : IsOpened names (machine a) settings s own at log.books x = was x found in
+          stepped settings script past a line log sessions first sessions st st.tables st.machine_tables st.bounds st.room (same_names sessions refl) st.distinct (λ t e. refl) (aside_none s log.books)
           (subst P (sym found) (record {
-            opened = opened_now names a kinded s own at line opened;
+            opened = opened_now names a settings kinded s own at line opened;
             ended = ended_more at line open_yet ∙ not_end ∙ sym (sym is.ended ∙ open_yet);
             come = λ _. come;
           }))
           (sym (append-nil log.text.items)
           ∙ ap (λ text. log.text.items ++ text)
-          (ap (λ b. end_text (machine a) s (host (machine a) own) (rest (Some (Stopped cause)) x.session) b) (sym not_end) ∙ sym gain_is ∙ sym (gained_own script past a line)))
+          (ap (λ b. end_text (machine a) s (host (machine a) own) (rest (Some (Stopped cause)) x.session) b) (sym not_end) ∙ sym gain_is ∙ sym (gained_own settings script past a line)))
 
-      pub fed_stands : (last : Log) (later : SessionsValue) → is_end line.event ≡ false → Feeds s sessions later first last (feeding_of line.event) → Stands script (past ++ line ∷ []) a last later
+      pub fed_stands : (last : Log) (later : SessionsValue) → is_end line.event ≡ false → Feeds s sessions later first last (feeding_of line.event) → Stands settings script (past ++ line ∷ []) a last later
       fed_stands last later not_end (inl i) =
-          let P : Log → Type 0 = λ v. Stands script (past ++ line ∷ []) a v later in
-          let Q : SessionsValue → Type 0 = λ v. Stands script (past ++ line ∷ []) a first v in
+          let P : Log → Type 0 = λ v. Stands settings script (past ++ line ∷ []) a v later in
+          let Q : SessionsValue → Type 0 = λ v. Stands settings script (past ++ line ∷ []) a first v in
           subst P (sym i.log) (subst Q (sym i.sessions) (idle not_end i.stopped))
       fed_stands last later not_end (inr f) = fed_on last later not_end f
 
@@ -326,16 +325,16 @@ module _ (script past : List Line) (a : Arrays) (line : Line) (kinded : IsKinded
           ∙ ap (λ v. end_line s (verdict_of (machine a) (rest (Some o) v)) v.next) session
 
       -- a session that was ended
-      closed_stands : (y : SessionValue) (books : Books) → is_end line.event ≡ true → y.is_closed ≡ true → IsOpened names (machine a) s own now books y
+      closed_stands : (y : SessionValue) (books : Books) → is_end line.event ≡ true → y.is_closed ≡ true → IsOpened names (machine a) settings s own now books y
       closed_stands y books ends closed = record {
-        opened = opened_now names a kinded s own at line opened;
+        opened = opened_now names a settings kinded s own at line opened;
         ended = ended_more at line open_yet ∙ ends ∙ sym closed;
         come = λ h. absurd (true_false (sym closed ∙ h));
       }
 
       -- the end of a session that went on
       ends_on : (last : Log) (later : SessionsValue) → is_end line.event ≡ true → feeding_of line.event ≡ [] → (f : Finishes s sessions later first last) →
-          f.taken.earlier.over ≡ None → f.was_stopped ≡ false → Stands script (past ++ line ∷ []) a last later
+          f.taken.earlier.over ≡ None → f.was_stopped ≡ false → Stands settings script (past ++ line ∷ []) a last later
       ends_on last later ends no_bytes f over_none going =
           let t = f.taken in
           let x = t.earlier in
@@ -360,7 +359,7 @@ module _ (script past : List Line) (a : Arrays) (line : Line) (kinded : IsKinded
 
       -- and of one that had stopped
       ends_stopped : (last : Log) (later : SessionsValue) → is_end line.event ≡ true → (f : Finishes s sessions later first last) →
-          (cause : Stop) → f.taken.earlier.over ≡ Some (Stopped cause) → f.was_stopped ≡ true → Stands script (past ++ line ∷ []) a last later
+          (cause : Stop) → f.taken.earlier.over ≡ Some (Stopped cause) → f.was_stopped ≡ true → Stands settings script (past ++ line ∷ []) a last later
       ends_stopped last later ends f cause over had =
           let t = f.taken in
           let x = t.earlier in
@@ -383,10 +382,10 @@ module _ (script past : List Line) (a : Arrays) (line : Line) (kinded : IsKinded
           (end_of_text y later later_tables later_found (Stopped cause) (rests.over_same ∙ over) x.session rests.session_same
           ∙ ap (λ b. end_text (machine a) s (host (machine a) own) (rest (Some (Stopped cause)) x.session) b) (sym ends) ∙ sym gain_is))
 
-      pub ended_stands : (last : Log) (later : SessionsValue) → is_end line.event ≡ true → feeding_of line.event ≡ [] → Finishes s sessions later first last → Stands script (past ++ line ∷ []) a last later
+      pub ended_stands : (last : Log) (later : SessionsValue) → is_end line.event ≡ true → feeding_of line.event ≡ [] → Finishes s sessions later first last → Stands settings script (past ++ line ∷ []) a last later
       ended_stands last later ends no_bytes f = go f.was_stopped refl
         where
-          go : (b : Bool) → f.was_stopped ≡ b → Stands script (past ++ line ∷ []) a last later
+          go : (b : Bool) → f.was_stopped ≡ b → Stands settings script (past ++ line ∷ []) a last later
           go true e =
               let x = f.taken.earlier in
               let found = f.taken.becomes.found in

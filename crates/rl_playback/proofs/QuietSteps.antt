@@ -26,7 +26,6 @@ use Rattle.rl_script.specs.TableNames.{names_in}
 use Rattle.rl_sessions.specs.SessionsValue.{SessionValue, SessionsValue, IsWindowOf, find, started}
 use Rattle.rl_playback.specs.declared.books.Books.{Books}
 use Rattle.rl_playback.specs.declared.log.Log.{Log}
-use Rattle.rl_playback.specs.Defaults.{default_settings}
 use Rattle.rl_playback.specs.Deeds.{Opens}
 use Rattle.rl_playback.specs.Stands.{IsUnopened, IsOpened, StandsAt, AreDistinct, Stands}
 use Rattle.rl_playback.proofs.Finds.{names_of, find_started, find_beside, distinct_started}
@@ -90,18 +89,18 @@ module _ (past : List Line) (line : Line) (opens : opening_of line.event ≡ Non
       let Q : Bool → Type 0 = λ b. input_of width (past ++ line ∷ []) ≡ input_at width 0 (fed past) b in
       subst Q ended_kept (subst P fed_kept refl)
 
-  module _ (names : Names) (m : Machine ℕ) (s : List ℕ) (own : List Line) where
-    run_kept : host_run names m default_settings own (past ++ line ∷ []) ≡ host_run names m default_settings own past
+  module _ (names : Names) (m : Machine ℕ) (settings : Settings) (s : List ℕ) (own : List Line) where
+    run_kept : host_run names m settings own (past ++ line ∷ []) ≡ host_run names m settings own past
     run_kept =
-        ap (λ o. hosted (host m own) [] (run_on false m default_settings (input_of m.width (past ++ line ∷ [])) (fresh (m.entry (entry_or_start names (unwrap_or o None)))))) opened_kept
-        ∙ ap (λ input. hosted (host m own) [] (run_on false m default_settings input (fresh (m.entry (entry_of names past))))) (input_kept m.width)
+        ap (λ o. hosted (host m own) [] (run_on false m settings (input_of m.width (past ++ line ∷ [])) (fresh (m.entry (entry_or_start names (unwrap_or o None)))))) opened_kept
+        ∙ ap (λ input. hosted (host m own) [] (run_on false m settings input (fresh (m.entry (entry_of names past))))) (input_kept m.width)
 
-    lines_kept : session_lines names m default_settings s own (past ++ line ∷ []) ≡ session_lines names m default_settings s own past
+    lines_kept : session_lines names m settings s own (past ++ line ∷ []) ≡ session_lines names m settings s own past
     lines_kept =
-        ap (λ o. cond (is_some o) (run_lines m default_settings s (host m own) (entry_or_start names (unwrap_or o None)) (input_of m.width (past ++ line ∷ []))) []) opened_kept
-        ∙ ap (λ input. cond (is_some (opened_at past)) (run_lines m default_settings s (host m own) (entry_of names past) input) []) (input_kept m.width)
+        ap (λ o. cond (is_some o) (run_lines m settings s (host m own) (entry_or_start names (unwrap_or o None)) (input_of m.width (past ++ line ∷ []))) []) opened_kept
+        ∙ ap (λ input. cond (is_some (opened_at past)) (run_lines m settings s (host m own) (entry_of names past) input) []) (input_kept m.width)
 
-    stands_kept : (books : Books) (o : Option SessionValue) → StandsAt names m s own past books o → StandsAt names m s own (past ++ line ∷ []) books o
+    stands_kept : (books : Books) (o : Option SessionValue) → StandsAt names m settings s own past books o → StandsAt names m settings s own (past ++ line ∷ []) books o
     stands_kept books None h = record { opened = opened_kept ∙ h.opened; fed = fed_kept ∙ h.fed; ended = ended_kept ∙ h.ended; counts = h.counts }
     stands_kept books (Some x) h = record {
       opened = ap (λ (o : Option (Option (List ℕ))). is_some o) opened_kept ∙ h.opened;
@@ -118,7 +117,7 @@ module _ (past : List Line) (line : Line) (opens : opening_of line.event ≡ Non
           };
     }
 
-module _ (script past : List Line) (a : Arrays) (line : Line) (log : Log) (sessions : SessionsValue) (st : Stands script past a log sessions) where
+module _ (settings : Settings) (script past : List Line) (a : Arrays) (line : Line) (log : Log) (sessions : SessionsValue) (st : Stands settings script past a log sessions) where
   abbrev s : List ℕ
   s = session_of line.event
 
@@ -132,17 +131,17 @@ module _ (script past : List Line) (a : Arrays) (line : Line) (log : Log) (sessi
   now = only s past ++ line ∷ []
 
   -- an answer to come
-  pub quiet_stands : opening_of line.event ≡ None → feeding_of line.event ≡ [] → is_end line.event ≡ false → opened_by line.event ≡ None → Stands script (past ++ line ∷ []) a log sessions
+  pub quiet_stands : opening_of line.event ≡ None → feeding_of line.event ≡ [] → is_end line.event ≡ false → opened_by line.event ≡ None → Stands settings script (past ++ line ∷ []) a log sessions
   quiet_stands opens feeds ends names =
       let none : filter_map (λ l. opened_by l.event) (line ∷ []) ≡ [] = rw names refl in
-      stepped script past a line log sessions log sessions st st.tables st.machine_tables st.settings st.room
+      stepped settings script past a line log sessions log sessions st st.tables st.machine_tables st.bounds st.room
       (sym (append-nil (names_of sessions.all)) ∙ ap (λ more. names_of sessions.all ++ more) (sym none)) st.distinct (λ t e. refl) (aside_none s log.books)
-      (stands_kept at line opens feeds ends (names_in a) (machine a) s own log.books (find s sessions.all) (st.each s))
+      (stands_kept at line opens feeds ends (names_in a) (machine a) settings s own log.books (find s sessions.all) (st.each s))
       (sym (append-nil log.text.items)
       ∙ ap (λ text. log.text.items ++ text)
-      (sym (less_itself (session_lines (names_in a) (machine a) default_settings s own at))
-      ∙ ap (λ text. drop (length (session_lines (names_in a) (machine a) default_settings s own at)) text) (sym (lines_kept at line opens feeds ends (names_in a) (machine a) s own))
-      ∙ sym (gained_own script past a line)))
+      (sym (less_itself (session_lines (names_in a) (machine a) settings s own at))
+      ∙ ap (λ text. drop (length (session_lines (names_in a) (machine a) settings s own at)) text) (sym (lines_kept at line opens feeds ends (names_in a) (machine a) settings s own))
+      ∙ sym (gained_own settings script past a line)))
 
   -- a session is opened
   module _ (entry : Option (List ℕ)) (later : SessionsValue) (opening : opening_of line.event ≡ Some entry) (feeds : feeding_of line.event ≡ []) (ends : is_end line.event ≡ false)
@@ -153,8 +152,8 @@ module _ (script past : List Line) (a : Arrays) (line : Line) (log : Log) (sessi
     abbrev x : SessionValue
     x = started s (m.entry (entry_or_start (names_in a) entry))
 
-    unopened : IsUnopened (names_in a) m s own at log.books
-    unopened = let P : Option SessionValue → Type 0 = λ v. StandsAt (names_in a) m s own at log.books v in subst P o.unknown (st.each s)
+    unopened : IsUnopened (names_in a) m settings s own at log.books
+    unopened = let P : Option SessionValue → Type 0 = λ v. StandsAt (names_in a) m settings s own at log.books v in subst P o.unknown (st.each s)
 
     one_opening : filter_map (λ l. opening_of l.event) (line ∷ []) ≡ entry ∷ []
     one_opening = rw opening refl
@@ -177,16 +176,16 @@ module _ (script past : List Line) (a : Arrays) (line : Line) (log : Log) (sessi
         let Q : Bool → Type 0 = λ b. input_of m.width now ≡ input_at m.width 0 [] b in
         subst Q ended_now (subst P fed_now refl)
 
-    run_now : host_run (names_in a) m default_settings own now ≡ run_pair [] (Some Wants) x.session
+    run_now : host_run (names_in a) m settings own now ≡ run_pair [] (Some Wants) x.session
     run_now =
-        ap (λ v. hosted (host m own) [] (run_on false m default_settings (input_of m.width now) (fresh (m.entry (entry_or_start (names_in a) (unwrap_or v None)))))) opened_now
-        ∙ ap (λ input. hosted (host m own) [] (run_on false m default_settings input x.session)) input_now
-        ∙ fresh_wants m default_settings (host m own) (m.entry (entry_or_start (names_in a) entry))
+        ap (λ v. hosted (host m own) [] (run_on false m settings (input_of m.width now) (fresh (m.entry (entry_or_start (names_in a) (unwrap_or v None)))))) opened_now
+        ∙ ap (λ input. hosted (host m own) [] (run_on false m settings input x.session)) input_now
+        ∙ fresh_wants m settings (host m own) (m.entry (entry_or_start (names_in a) entry))
 
     is_opened_now : is_opened now ≡ true
     is_opened_now = ap (λ (v : Option (Option (List ℕ))). is_some v) opened_now
 
-    here : IsOpened (names_in a) m s own now log.books x
+    here : IsOpened (names_in a) m settings s own now log.books x
     here = record {
       opened = is_opened_now;
       ended = ended_now;
@@ -199,13 +198,13 @@ module _ (script past : List Line) (a : Arrays) (line : Line) (log : Log) (sessi
       };
     }
 
-    no_lines : session_lines (names_in a) m default_settings s own at ≡ []
-    no_lines = ap (λ (v : Option (Option (List ℕ))). cond (is_some v) (run_lines m default_settings s (host m own) (entry_of (names_in a) at) (input_of m.width at)) []) unopened.opened
+    no_lines : session_lines (names_in a) m settings s own at ≡ []
+    no_lines = ap (λ (v : Option (Option (List ℕ))). cond (is_some v) (run_lines m settings s (host m own) (entry_of (names_in a) at) (input_of m.width at)) []) unopened.opened
 
-    no_lines_now : session_lines (names_in a) m default_settings s own now ≡ []
+    no_lines_now : session_lines (names_in a) m settings s own now ≡ []
     no_lines_now =
-        session_text (names_in a) m s own now is_opened_now
-        ∙ ap (λ b. lines_by m s (host m own) (host_run (names_in a) m default_settings own now) b) ended_now
+        session_text (names_in a) m settings s own now is_opened_now
+        ∙ ap (λ b. lines_by m s (host m own) (host_run (names_in a) m settings own now) b) ended_now
         ∙ ap (λ r. lines_by m s (host m own) r false) run_now
 
     all_is : later.all ≡ sessions.all ++ x ∷ []
@@ -213,17 +212,17 @@ module _ (script past : List Line) (a : Arrays) (line : Line) (log : Log) (sessi
         ap (λ (v : SessionsValue). v.all) o.others
         ∙ ap (λ v. sessions.all ++ started s ((machine v).entry (entry_or_start (names_in a) entry)) ∷ []) st.machine_tables
 
-    pub open_stands : Stands script (past ++ line ∷ []) a log later
+    pub open_stands : Stands settings script (past ++ line ∷ []) a log later
     open_stands =
         let named : filter_map (λ l. opened_by l.event) (line ∷ []) ≡ s ∷ [] = rw names_it refl in
         let D : List SessionValue → Type 0 = λ all. AreDistinct all in
-        let P : Option SessionValue → Type 0 = λ v. StandsAt (names_in a) m s own now log.books v in
-        stepped script past a line log sessions log later st st.tables
-        (ap (λ (v : SessionsValue). v.tables) o.others ∙ st.machine_tables) (ap (λ (v : SessionsValue). v.settings) o.others ∙ st.settings) st.room
+        let P : Option SessionValue → Type 0 = λ v. StandsAt (names_in a) m settings s own now log.books v in
+        stepped settings script past a line log sessions log later st st.tables
+        (ap (λ (v : SessionsValue). v.tables) o.others ∙ st.machine_tables) (ap (λ (v : SessionsValue). v.settings) o.others ∙ st.bounds) st.room
         (ap names_of all_is ∙ map-append (λ (v : SessionValue). v.name) sessions.all (x ∷ []) ∙ ap (λ more. names_of sessions.all ++ more) (sym named))
         (subst D (sym all_is) (distinct_started s x refl sessions.all st.distinct o.unknown))
         (λ t e. ap (find t) all_is ∙ find_beside s x refl t sessions.all e) (aside_none s log.books)
         (subst P (sym (ap (find s) all_is ∙ find_started s x refl sessions.all o.unknown)) here)
         (sym (append-nil log.text.items)
         ∙ ap (λ text. log.text.items ++ text)
-        (sym (ap (λ text. drop (length text) (session_lines (names_in a) m default_settings s own now)) no_lines ∙ no_lines_now) ∙ sym (gained_own script past a line)))
+        (sym (ap (λ text. drop (length text) (session_lines (names_in a) m settings s own now)) no_lines ∙ no_lines_now) ∙ sym (gained_own settings script past a line)))

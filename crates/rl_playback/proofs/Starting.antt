@@ -9,22 +9,21 @@ use Rattle.rl_script.specs.TableNames.{names_in}
 use Rattle.rl_sessions.specs.SessionsValue.{SessionsValue}
 use Rattle.rl_playback.specs.declared.log.Log.{Log}
 use Rattle.rl_playback.specs.Books.{AreAnswersOf, HasNoCalls}
-use Rattle.rl_playback.specs.Defaults.{default_settings}
 use Rattle.rl_playback.specs.Log.{tables_of}
 use Rattle.rl_playback.specs.Stands.{Stands}
 
-pub stands_before : (script : List Line) (a : Arrays) (log : Log) (sessions : SessionsValue) → Valid a → first_fault (names_in a) script ≡ None → length (fed script) < 2 ^ 63 →
-    tables_of log ≡ a → sessions ≡ record { tables = a; settings = default_settings; all = [] } → log.is_full ≡ false → log.text.items ≡ [] →
-    AreAnswersOf script log.books → HasNoCalls log.books → Stands script [] a log sessions
-stands_before script a log sessions valid admitted small tables empty room no_text answers calls =
-    let P : SessionsValue → Type 0 = λ v. Stands script [] a log v in
+pub stands_before : (settings : Settings) (script : List Line) (a : Arrays) (log : Log) (sessions : SessionsValue) → Valid a → first_fault (names_in a) script ≡ None → length (fed script) < 2 ^ 63 →
+    tables_of log ≡ a → sessions ≡ record { tables = a; settings = settings; all = [] } → log.is_full ≡ false → log.text.items ≡ [] →
+    AreAnswersOf script log.books → HasNoCalls log.books → Stands settings script [] a log sessions
+stands_before settings script a log sessions valid admitted small tables empty room no_text answers calls =
+    let P : SessionsValue → Type 0 = λ v. Stands settings script [] a log v in
     subst P (sym empty) (record {
       valid = valid;
       admitted = admitted;
       small = small;
       tables = tables;
       machine_tables = refl;
-      settings = refl;
+      bounds = refl;
       room = room;
       names = refl;
       distinct = tt;
@@ -41,6 +40,3 @@ stands_before script a log sessions valid admitted small tables empty room no_te
       };
       text = no_text;
     })
-
-abbrev pub no_sessions : Arrays → Settings → SessionsValue
-no_sessions a settings = record { tables = a; settings = settings; all = [] }

@@ -21,7 +21,6 @@ use Rattle.rl_sessions.specs.SessionsValue.{SessionValue, SessionsValue, find}
 use Rattle.rl_playback.specs.declared.books.Books.{Books}
 use Rattle.rl_playback.specs.declared.log.Log.{Log}
 use Rattle.rl_playback.specs.Books.{Named, answer_in, count_in}
-use Rattle.rl_playback.specs.Defaults.{default_settings}
 use Rattle.rl_playback.specs.Log.{tables_of}
 use Rattle.rl_playback.specs.Stands.{Counts, HasCome, StandsAt, AreDistinct, Stands}
 use Rattle.rl_playback.proofs.Answered.{bytes_turned}
@@ -43,7 +42,7 @@ aside_of s first mid books b e =
     let P : Books → Type 0 = λ v. Aside s first.books v in
     subst P (sym e) (record { picks = b.same_log.picks; asks = b.same_log.asks; pick_counts = b.other_picks; ask_counts = b.other_asks })
 
-module _ (names : Names) (m : Machine ℕ) (s t : List ℕ) (own past : List Line) (old new : Books) (aside : Aside s old new) (apart : bytes_eq t s ≡ false) where
+module _ (names : Names) (m : Machine ℕ) (settings : Settings) (s t : List ℕ) (own past : List Line) (old new : Books) (aside : Aside s old new) (apart : bytes_eq t s ≡ false) where
   counts_aside : (calls : List Call) → Counts m t own calls old → Counts m t own calls new
   counts_aside calls c = record {
     picks = λ u n. ap (λ answers. answer_in (t, u) n answers) aside.picks ∙ c.picks u n;
@@ -52,11 +51,11 @@ module _ (names : Names) (m : Machine ℕ) (s t : List ℕ) (own past : List Lin
     ask_counts = λ u. aside.ask_counts (t, u) apart ∙ c.ask_counts u;
   }
 
-  come_aside : (x : SessionValue) → HasCome names m t own past old x → HasCome names m t own past new x
+  come_aside : (x : SessionValue) → HasCome names m settings t own past old x → HasCome names m settings t own past new x
   come_aside x h = record { calls = h.calls; run = h.run; counts = counts_aside h.calls h.counts; window = h.window; stopped = h.stopped }
 
   -- another session stands where it stood
-  pub stands_aside : (o : Option SessionValue) → StandsAt names m t own past old o → StandsAt names m t own past new o
+  pub stands_aside : (o : Option SessionValue) → StandsAt names m settings t own past old o → StandsAt names m settings t own past new o
   stands_aside None h = record { opened = h.opened; fed = h.fed; ended = h.ended; counts = counts_aside [] h.counts }
   stands_aside (Some x) h = record { opened = h.opened; ended = h.ended; come = λ e. come_aside x (h.come e) }
 
@@ -76,7 +75,7 @@ module _ (names : Names) (m : Machine ℕ) (settings : Settings) (script : List 
       ∙ flat_map-append (λ (part : Part). part.text) (parts_from names m settings script [] past) (added names m settings script past line ∷ [])
       ∙ ap (λ text. texts (parts_from names m settings script [] past) ++ text) (append-nil (gained names m settings script past line (session_of line.event)))
 
-module _ (script past : List Line) (a : Arrays) (line : Line) where
+module _ (settings : Settings) (script past : List Line) (a : Arrays) (line : Line) where
   abbrev s : List ℕ
   s = session_of line.event
 
@@ -93,43 +92,43 @@ module _ (script past : List Line) (a : Arrays) (line : Line) where
   own_line = only_more s past line true ((bytes_eq-Decides s s).1 refl)
 
   -- what the line adds, by the session's lines alone
-  pub gained_own : gained (names_in a) m default_settings script past line s
-      ≡ drop (length (session_lines (names_in a) m default_settings s own (only s past))) (session_lines (names_in a) m default_settings s own now)
-  gained_own = ap (λ lines. drop (length (session_lines (names_in a) m default_settings s own (only s past))) (session_lines (names_in a) m default_settings s own lines)) own_line
+  pub gained_own : gained (names_in a) m settings script past line s
+      ≡ drop (length (session_lines (names_in a) m settings s own (only s past))) (session_lines (names_in a) m settings s own now)
+  gained_own = ap (λ lines. drop (length (session_lines (names_in a) m settings s own (only s past))) (session_lines (names_in a) m settings s own lines)) own_line
 
   -- all sessions, where the line's own stands behind the line
-  pub stepped : (log : Log) (sessions : SessionsValue) (next : Log) (later : SessionsValue) → Stands script past a log sessions →
-      tables_of next ≡ a → later.tables ≡ a → later.settings ≡ default_settings → next.is_full ≡ false →
+  pub stepped : (log : Log) (sessions : SessionsValue) (next : Log) (later : SessionsValue) → Stands settings script past a log sessions →
+      tables_of next ≡ a → later.tables ≡ a → later.settings ≡ settings → next.is_full ≡ false →
       names_of later.all ≡ names_of sessions.all ++ filter_map (λ l. opened_by l.event) (line ∷ []) → AreDistinct later.all →
       ((t : List ℕ) → bytes_eq s t ≡ false → find t later.all ≡ find t sessions.all) → Aside s log.books next.books →
-      StandsAt (names_in a) m s own now next.books (find s later.all) →
-      next.text.items ≡ log.text.items ++ gained (names_in a) m default_settings script past line s →
-      Stands script (past ++ line ∷ []) a next later
-  stepped log sessions next later st tables machine_tables settings room names distinct others aside stands text = record {
+      StandsAt (names_in a) m settings s own now next.books (find s later.all) →
+      next.text.items ≡ log.text.items ++ gained (names_in a) m settings script past line s →
+      Stands settings script (past ++ line ∷ []) a next later
+  stepped log sessions next later st tables machine_tables bounds room names distinct others aside stands text = record {
     valid = st.valid;
     admitted = st.admitted;
     small = st.small;
     tables = tables;
     machine_tables = machine_tables;
-    settings = settings;
+    bounds = bounds;
     room = room;
     names = names ∙ ap (λ ns. ns ++ filter_map (λ l. opened_by l.event) (line ∷ [])) st.names ∙ sym (filter_map-append (λ l. opened_by l.event) past (line ∷ []));
     distinct = distinct;
     each = λ t. go t (bytes_eq s t) refl;
-    text = text ∙ ap (λ front. front ++ gained (names_in a) m default_settings script past line s) st.text ∙ sym (texts_more (names_in a) m default_settings script past line);
+    text = text ∙ ap (λ front. front ++ gained (names_in a) m settings script past line s) st.text ∙ sym (texts_more (names_in a) m settings script past line);
   }
     where
-      go : (t : List ℕ) (b : Bool) → bytes_eq s t ≡ b → StandsAt (names_in a) m t (only t script) (only t (past ++ line ∷ [])) next.books (find t later.all)
+      go : (t : List ℕ) (b : Bool) → bytes_eq s t ≡ b → StandsAt (names_in a) m settings t (only t script) (only t (past ++ line ∷ [])) next.books (find t later.all)
       go t true e =
-          let P : List ℕ → Type 0 = λ u. StandsAt (names_in a) m u (only u script) (only u (past ++ line ∷ [])) next.books (find u later.all) in
-          let Q : List Line → Type 0 = λ lines. StandsAt (names_in a) m s own lines next.books (find s later.all) in
+          let P : List ℕ → Type 0 = λ u. StandsAt (names_in a) m settings u (only u script) (only u (past ++ line ∷ [])) next.books (find u later.all) in
+          let Q : List Line → Type 0 = λ lines. StandsAt (names_in a) m settings s own lines next.books (find s later.all) in
           subst P ((bytes_eq-Decides s t).0 e) (subst Q (sym own_line) stands)
       go t false e =
-          let Q : List Line → Type 0 = λ lines. StandsAt (names_in a) m t (only t script) lines next.books (find t later.all) in
-          let R : Option SessionValue → Type 0 = λ o. StandsAt (names_in a) m t (only t script) (only t past) next.books o in
+          let Q : List Line → Type 0 = λ lines. StandsAt (names_in a) m settings t (only t script) lines next.books (find t later.all) in
+          let R : Option SessionValue → Type 0 = λ o. StandsAt (names_in a) m settings t (only t script) (only t past) next.books o in
           subst Q (sym (only_more t past line false e ∙ append-nil (only t past)))
           (subst R (sym (others t e))
-          (stands_aside (names_in a) m s t (only t script) (only t past) log.books next.books aside (bytes_turned t s ∙ e) (find t sessions.all) (st.each t)))
+          (stands_aside (names_in a) m settings s t (only t script) (only t past) log.books next.books aside (bytes_turned t s ∙ e) (find t sessions.all) (st.each t)))
 
 -- ---- what an admitted script says of a line
 

@@ -7,6 +7,7 @@ use Rattle.std.proofs.lemmas.List.Folds.{list_any-append}
 use Rattle.std.proofs.Math.Nat.{div-le_self}
 use Rattle.rl_types.specs.Alphabet.{characters}
 use Rattle.rl_types.proofs.Characters.{length-characters}
+use Rattle.rl_run.specs.declared.sessions.Settings.{Settings}
 use Rattle.rl_run.specs.declared.calls.Answer.{Answer}
 use Rattle.rl_run.specs.declared.calls.Call.{Call}
 use Rattle.rl_run.specs.declared.calls.Outcome.{Outcome}
@@ -22,7 +23,6 @@ use Rattle.rl_replay.specs.Host.{host}
 use Rattle.rl_replay.specs.Lines.{call_line, calls_lines, stop_lines, end_line, run_lines}
 use Rattle.rl_replay.specs.Sessions.{Names, first, opening_of, feeding_of, is_end, opened_at, is_opened, is_ended, fed}
 use Rattle.rl_replay.specs.Written.{input_of, entry_of, host_run, session_lines}
-use Rattle.rl_playback.specs.Defaults.{default_settings}
 use Rattle.rl_playback.specs.Log.{stop_text}
 
 -- ---- lines that follow
@@ -123,6 +123,6 @@ stop_same s Broke t = refl
 stop_same s Ended t = refl
 stop_same s (Stopped cause) t = refl
 
-pub session_text : (names : Names) (m : Machine ℕ) (s : List ℕ) (own past : List Line) → is_opened past ≡ true →
-    session_lines names m default_settings s own past ≡ lines_by m s (host m own) (host_run names m default_settings own past) (is_ended past)
-session_text names m s own past e = ap (λ b. cond b (run_lines m default_settings s (host m own) (entry_of names past) (input_of m.width past)) []) e
+pub session_text : (names : Names) (m : Machine ℕ) (settings : Settings) (s : List ℕ) (own past : List Line) → is_opened past ≡ true →
+    session_lines names m settings s own past ≡ lines_by m s (host m own) (host_run names m settings own past) (is_ended past)
+session_text names m settings s own past e = ap (λ b. cond b (run_lines m settings s (host m own) (entry_of names past) (input_of m.width past)) []) e

@@ -1,5 +1,6 @@
 -- Where a replay stands behind some of a script's lines.
 use Rattle.std.specs.Prelude.{◌≡◌, ℕ, ◌<◌, ◌^◌, true, false, List, [], ◌∷◌, length, map, filter_map, Option, Some, None}
+use Rattle.rl_run.specs.declared.sessions.Settings.{Settings}
 use Rattle.rl_run.specs.declared.calls.Call.{Call}
 use Rattle.rl_run.specs.declared.calls.Outcome.{Outcome}
 use Rattle.rl_run.specs.declared.calls.Outcome.TheVariants.{Wants, Stopped}
@@ -20,7 +21,6 @@ use Rattle.rl_sessions.specs.SessionsValue.{SessionValue, SessionsValue, IsWindo
 use Rattle.rl_playback.specs.declared.books.Books.{Books}
 use Rattle.rl_playback.specs.declared.log.Log.{Log}
 use Rattle.rl_playback.specs.Books.{count_in, answer_in}
-use Rattle.rl_playback.specs.Defaults.{default_settings}
 use Rattle.rl_playback.specs.Log.{tables_of}
 
 -- the books answer for a session by its own lines, and have counted these calls of it
@@ -35,11 +35,11 @@ abbrev pub outcome_of : Option Outcome → Outcome
 outcome_of None = Wants
 outcome_of (Some outcome) = outcome
 
-module _ (names : Names) (m : Machine ℕ) (s : List ℕ) (own past : List Line) (books : Books) where
+module _ (names : Names) (m : Machine ℕ) (settings : Settings) (s : List ℕ) (own past : List Line) (books : Books) where
   -- a session that was not ended stands where the run over its pieces so far has come, and its calls were counted
   pub record HasCome (x : SessionValue) : Type 0 where
     pub calls : List Call
-    pub run : host_run names m default_settings own past ≡ (calls, rest (Some (outcome_of x.over)) x.session)
+    pub run : host_run names m settings own past ≡ (calls, rest (Some (outcome_of x.over)) x.session)
     pub counts : Counts m s own calls books
     pub window : x.over ≡ None → IsWindowOf m.width (fed past) x
     pub stopped : (outcome : Outcome) → x.over ≡ Some outcome → (cause : Stop) × (outcome ≡ Stopped cause)
@@ -67,15 +67,15 @@ AreDistinct [] = Unit {0}
 AreDistinct (x ∷ xs) = (find x.name xs ≡ None) × AreDistinct xs
 
 -- each session stands where its run has come, and what is written is what the lines so far add
-pub record Stands (script past : List Line) (a : Arrays) (log : Log) (sessions : SessionsValue) : Type 0 where
+pub record Stands (settings : Settings) (script past : List Line) (a : Arrays) (log : Log) (sessions : SessionsValue) : Type 0 where
   pub valid : Valid a
   pub admitted : first_fault (names_in a) script ≡ None
   pub small : length (fed script) < 2 ^ 63
   pub tables : tables_of log ≡ a
   pub machine_tables : sessions.tables ≡ a
-  pub settings : sessions.settings ≡ default_settings
+  pub bounds : sessions.settings ≡ settings
   pub room : log.is_full ≡ false
   pub names : map (λ (x : SessionValue). x.name) sessions.all ≡ filter_map (λ line. opened_by line.event) past
   pub distinct : AreDistinct sessions.all
-  pub each : (s : List ℕ) → StandsAt (names_in a) (machine a) s (only s script) (only s past) log.books (find s sessions.all)
-  pub text : log.text.items ≡ texts (parts_from (names_in a) (machine a) default_settings script [] past)
+  pub each : (s : List ℕ) → StandsAt (names_in a) (machine a) settings s (only s script) (only s past) log.books (find s sessions.all)
+  pub text : log.text.items ≡ texts (parts_from (names_in a) (machine a) settings script [] past)

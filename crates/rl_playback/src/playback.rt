@@ -5,7 +5,6 @@ ghost use Rattle.rl_replay.specs.Sessions.{fed, first_fault};
 ghost use Rattle.rl_replay.specs.Written.{written};
 ghost use Rattle.rl_script.specs.TableNames.{names_in};
 ghost use Rattle.rl_playback.specs.Deeds.{left_at, left_texts};
-ghost use Rattle.rl_playback.specs.Defaults.{default_settings};
 ghost use Rattle.rl_playback.specs.Stands.{Stands};
 
 use crate::books::books_of;
@@ -19,28 +18,18 @@ use rl_tables::Tables;
 use rl_types::Memory;
 use std::alloc::Global;
 
-// The settings of a replay.
-fn settings_of_replay() -> Settings
-    ensures { result ≡ default_settings }
-{
-    Settings {
-        stack: 64,
-        look: 8,
-        token_max: 65536,
-    }
-}
-
 // Does what one line says.
 fn play_line<'a>(
     log: &mut Log<'a>,
     sessions: &mut Sessions<'a>,
     tables: &'a Tables,
+    settings: Settings,
     lines: &'a [Line],
     place: usize,
 ) -> Result<(), Memory>
     requires place { place < length lines.now }
-    requires stands { Stands lines.now (take place lines.now) tables.now log.old sessions.old }
-    ensures { OnOk result (Stands lines.now (take (place + 1) lines.now) tables.now log.new sessions.new) }
+    requires stands { Stands settings lines.now (take place lines.now) tables.now log.old sessions.old }
+    ensures { OnOk result (Stands settings lines.now (take (place + 1) lines.now) tables.now log.new sessions.new) }
 {
     match &lines[place].event {
         Event::Open(name, entry) => open(log.alloc, tables, sessions, name.bytes(), entry),
@@ -61,13 +50,14 @@ fn play<'a>(
     log: &mut Log<'a>,
     sessions: &mut Sessions<'a>,
     tables: &'a Tables,
+    settings: Settings,
     lines: &'a [Line],
 ) -> Result<(), Memory>
-    requires { Stands lines.now [] tables.now log.old sessions.old }
-    ensures { OnOk result (Stands lines.now lines.now tables.now log.new sessions.new) }
+    requires { Stands settings lines.now [] tables.now log.old sessions.old }
+    ensures { OnOk result (Stands settings lines.now lines.now tables.now log.new sessions.new) }
 {
     for place in 0..lines.len() {
-        play_line(log, sessions, tables, lines, place)?;
+        play_line(log, sessions, tables, settings, lines, place)?;
     }
     Ok(())
 }
@@ -97,18 +87,18 @@ fn push_all_left(log: &mut Log<'_>, sessions: &Sessions<'_>) -> Result<(), Memor
 
 /// All that a replay of an admitted script over these tables writes: the lines of its calls, stops and ends in the order
 /// in which the script's lines make them, and then a left line for each session that was not ended, in order of opening.
-/// The sessions have the settings of a replay: a stack of 64 entries, 8 characters to go back by, and tokens of at most
-/// 65,536 characters. A call is answered by the session's line for it, or else as `answer_by_itself` says (this profile).
+/// All sessions have these settings. A call is answered by the session's line for it, or else as `answer_by_itself` says (this profile).
 /// `Memory` where memory is wanting, or where a name was called more often in a session than 64 bits can count; no line of
 /// an admitted script is refused.
 pub fn lines_of_script<'a>(
     alloc: Global,
     tables: &'a Tables,
+    settings: Settings,
     script: &'a Script,
 ) -> Result<Vec<u8>, Memory>
     requires admitted { first_fault (names_in tables.now) script.now.lines ≡ None }
     requires small { length (fed script.now.lines) < 2 ^ 63 }
-    ensures { IfOk result (λ v. v.items ≡ written (names_in tables.now) (machine tables.now) default_settings script.now.lines) }
+    ensures { IfOk result (λ v. v.items ≡ written (names_in tables.now) (machine tables.now) settings script.now.lines) }
 {
     prove!(!tables.arrays().entry_names.is_empty());
     let lines = script.lines.as_slice();
@@ -121,8 +111,8 @@ pub fn lines_of_script<'a>(
         text: Vec::new(alloc),
         is_full: false,
     };
-    let mut sessions = Sessions::new(alloc, tables, settings_of_replay());
-    play(&mut log, &mut sessions, tables, lines)?;
+    let mut sessions = Sessions::new(alloc, tables, settings);
+    play(&mut log, &mut sessions, tables, settings, lines)?;
     push_all_left(&mut log, &sessions)?;
     Ok(log.text)
 }

@@ -1,11 +1,18 @@
 use Rattle.std.proofs.Common.{refl}
-use Rattle.ragel_run.proofs.Steps.{written, refused, of_bytes}
+use Rattle.ragel_run.proofs.Steps.{said_here, nothing_here, no_words, no_memory}
+use Rattle.ragel_run.specs.Ends.{outside}
 use Rattle.ragel_run.proofs.replay.run.Goals as goal
 
-pub returns-in-Ok-clause-ends : goal.returns-in-Ok-clause-ends
-returns-in-Ok-clause-ends g c =
-    written _ _ c.in-Ok.lines c.write_lines.result c.in-Ok.ensures.due c.in-Ok.ensures.faultless
-    (of_bytes _ _ _ _ _ _ _ c.as_slice.ensures c.write_lines.ensures)
+pub returns-in-Ok-run_words : goal.returns-in-Ok-run_words
+returns-in-Ok-run_words g c =
+    let o = outside (g.S.Store.held c.args.store.now) (g.S.Store.held c.run_form.new.store) (g.S.Store.faults c.args.store.now) (g.S.Store.faults c.run_form.new.store)
+    (g.O.Sink.written c.args.out.now) (g.O.Sink.written c.run_form.new.out) (g.O.Sink.faults c.args.out.now) (g.O.Sink.faults c.run_form.new.out) in
+    said_here o _ c.as_slice.result.now c.in-Ok.words.items _ c.run_form.result c.as_slice.ensures.value c.in-Ok.ensures c.in-Ok-run_words.ensures.said c.run_form.ensures
 
-pub returns-in-Err-clause-ends : goal.returns-in-Err-clause-ends
-returns-in-Err-clause-ends g c = refused _ _ _ (c.in-Err.ensures.refused, refl, refl)
+pub returns-in-Err-Usage : goal.returns-in-Err-Usage
+returns-in-Err-Usage g c =
+    let none = nothing_here c.args.words.now c.as_slice.result.now c.in-Ok.words.items _ c.as_slice.ensures.value c.in-Ok.ensures c.in-Err-Usage.field-0-is c.in-Err-Usage.ensures.refused in
+    no_words _ _ none (refl, refl) refl refl
+
+pub returns : goal.returns
+returns g c = no_memory _ _ (refl, refl) refl refl

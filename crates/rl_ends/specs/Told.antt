@@ -1,12 +1,10 @@
--- What is told of a replay's end, and when it is (this profile).
-use Rattle.std.specs.Prelude.{◌≡◌, ◌⊎◌, ℕ, List, [], ◌++◌, Option, Result, Ok, Err, slice_get, unwrap_or, codes, decimal}
+-- The line that each end of a program is told by, and what the error output gains of it (this profile).
+use Rattle.std.specs.Prelude.{◌≡◌, ◌⊎◌, ℕ, List, [], ◌++◌, Option, Result, Ok, Err, codes, decimal}
 use Rattle.rl_types.specs.declared.faults.FaultKind.{FaultKind}
 use Rattle.rl_types.specs.declared.faults.FaultKind.TheVariants as f
 use Rattle.rl_types.specs.declared.faults.LimitKind.{LimitKind}
 use Rattle.rl_types.specs.declared.faults.LimitKind.TheVariants as l
 use Rattle.rl_types.specs.declared.numbers.Place.{Place}
-use Rattle.rl_types.specs.declared.status.Status.{Status}
-use Rattle.rl_types.specs.declared.status.Status.TheVariants as statuses
 use Rattle.rl_io.specs.Outside.{Rose, Appends, AppendsPrefix}
 use Rattle.rl_io.specs.declared.outside.SinkFault.{SinkFault}
 use Rattle.rl_io.specs.declared.outside.SinkFault.TheVariants as sink
@@ -15,11 +13,8 @@ use Rattle.rl_cread.specs.declared.fault.TableFault.{TableFault}
 use Rattle.rl_cread.specs.declared.fault.TableFault.TheVariants as marks
 use Rattle.rl_replay.specs.declared.script.ScriptFault.{ScriptFault}
 use Rattle.rl_replay.specs.declared.script.ScriptFault.TheVariants as faults
-use Rattle.rl_includes.specs.declared.unrolled.Stop.{Stop}
-use Rattle.rl_includes.specs.declared.unrolled.Stop.TheVariants as stop
-use Rattle.ragel_run.specs.Replay.{Outside, Ends, Due, HasNoFault, status_of}
-use Rattle.ragel_run.specs.declared.refusal.Refusal.{Refusal}
-use Rattle.ragel_run.specs.declared.refusal.Refusal.TheVariants as refusals
+use Rattle.rl_ends.specs.declared.refusal.Refusal.{Refusal}
+use Rattle.rl_ends.specs.declared.refusal.Refusal.TheVariants as refusals
 
 -- the number of a fault, and what it is
 abbrev pub words_of_fault : FaultKind → List ℕ
@@ -42,7 +37,6 @@ words_of_fault f.F16 = codes "F16 no entry"
 words_of_fault f.F17 = codes "F17 include loop"
 words_of_fault f.F18 = codes "F18 no instance"
 words_of_fault f.F19 = codes "F19 marker"
-words_of_fault f.F20 = codes "F20 not yet"
 
 -- the number of a limit, and what it counts
 abbrev pub words_of_limit : LimitKind → List ℕ
@@ -62,13 +56,6 @@ words_of_limit l.L12 = codes "L12 input"
 -- what is wrong at a place in a file
 abbrev pub told_at : List ℕ → Place → List ℕ → List ℕ
 told_at file place words = file ++ codes ":" ++ decimal place.line ++ codes ":" ++ decimal place.col ++ codes ": " ++ words ++ codes "\n"
-
--- the line that a refused source is told by
-abbrev pub told_by : Stop → List ℕ
-told_by (stop.Fault fault file) = told_at file fault.place (words_of_fault fault.kind)
-told_by (stop.Limit limit file) = told_at file limit.place (words_of_limit limit.kind)
-told_by (stop.Missing file) = file ++ codes ": missing\n"
-told_by (stop.StoreFailed file) = file ++ codes ": store failed\n"
 
 -- what is wrong in a line of a file
 abbrev pub told_in_line : List ℕ → ℕ → List ℕ → List ℕ
@@ -91,27 +78,23 @@ told_script file (faults.NoName line) = told_in_line file line (codes "no name")
 told_script file (faults.Full line) = told_in_line file line (codes "full")
 told_script file faults.Memory = codes "out of memory\n"
 
--- the line that a refusal is told by, with the names of the two files
-abbrev pub told_refusal : List ℕ → List ℕ → Refusal → List ℕ
-told_refusal spec script refusals.Usage = codes "usage\n"
-told_refusal spec script (refusals.Source s) = told_by s
-told_refusal spec script refusals.NoPrinted = spec ++ codes ": missing\n"
-told_refusal spec script refusals.PrintedFailed = spec ++ codes ": store failed\n"
-told_refusal spec script (refusals.Section fault) = told_section spec fault
-told_refusal spec script refusals.NoScript = script ++ codes ": missing\n"
-told_refusal spec script refusals.ScriptFailed = script ++ codes ": store failed\n"
-told_refusal spec script (refusals.Script fault) = told_script script fault
-told_refusal spec script refusals.OutputFailed = codes "output failed\n"
-told_refusal spec script refusals.Memory = codes "out of memory\n"
+-- the line that a refusal is told by
+abbrev pub told_refusal : Refusal → List ℕ
+told_refusal refusals.Usage = codes "usage\n"
+told_refusal (refusals.Fault fault file) = told_at file fault.place (words_of_fault fault.kind)
+told_refusal (refusals.Limit limit file) = told_at file limit.place (words_of_limit limit.kind)
+told_refusal (refusals.Missing file) = file ++ codes ": missing\n"
+told_refusal (refusals.StoreFailed file) = file ++ codes ": store failed\n"
+told_refusal (refusals.Section fault file) = told_section file fault
+told_refusal (refusals.Script fault file) = told_script file fault
+told_refusal refusals.InputFailed = codes "input failed\n"
+told_refusal refusals.OutputFailed = codes "output failed\n"
+told_refusal refusals.Memory = codes "out of memory\n"
 
--- the word at a place; the empty one where there is none
-abbrev pub word_at : List (List ℕ) → ℕ → List ℕ
-word_at words place = unwrap_or (slice_get words place) []
-
--- the line on the error output, for these words
-abbrev pub line_of : {T : Type 0} → List (List ℕ) → Result T Refusal → List ℕ
-line_of words (Ok done) = []
-line_of words (Err refusal) = told_refusal (word_at words 0) (word_at words 1) refusal
+-- the line on the error output; none where nothing was refused
+abbrev pub line_of : {T : Type 0} → Result T Refusal → List ℕ
+line_of (Ok done) = []
+line_of (Err refusal) = told_refusal refusal
 
 -- the error output gains the line; where it failed it gains a prefix, where memory was wanting nothing
 abbrev pub Tells : Option (List ℕ) → Option (List ℕ) → ℕ → ℕ → List ℕ → Type 0
@@ -122,20 +105,3 @@ abbrev pub TellsAs : {T : Type 0} → Option (List ℕ) → Option (List ℕ) �
 TellsAs old new before now line (Ok done) = Appends old new line
 TellsAs old new before now line (Err sink.Failed) = Rose before now × AppendsPrefix old new line
 TellsAs old new before now line (Err sink.Memory) = new ≡ old
-
--- there is one way to end, with its status, and what the error output answered to its line
-abbrev pub EndsTelling : {T : Type 0} → Outside → List (List ℕ) → Option (List ℕ) → Option (List ℕ) → ℕ → ℕ → Status
-    → Result T SinkFault → Type 0
-EndsTelling o words old new before now status told =
-    (end : Result (Unit {0}) Refusal) × Ends o words end × (status ≡ status_of end) × TellsAs old new before now (line_of words end) told
-
--- there is one way to end, with its status, and the error output gains its line
-abbrev pub EndsWith : Outside → List (List ℕ) → Option (List ℕ) → Option (List ℕ) → ℕ → ℕ → Status → Type 0
-EndsWith o words old new before now status =
-    (end : Result (Unit {0}) Refusal) × Ends o words end × (status ≡ status_of end) × Tells old new before now (line_of words end)
-
--- a replay that meets no fault ends as it is to end, or for want of memory
-abbrev pub IsComplete : Outside → List (List ℕ) → Option (List ℕ) → Option (List ℕ) → ℕ → ℕ → Status → Type 0
-IsComplete o words old new before now status =
-    HasNoFault o → (end : Result (Unit {0}) Refusal) → Due o.held words end →
-    ((status ≡ status_of end) × Tells old new before now (line_of words end)) ⊎ (status ≡ statuses.Memory)

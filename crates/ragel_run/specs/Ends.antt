@@ -1,0 +1,177 @@
+-- How `ragel-run` ends, when it ends how, and what is told of it (this profile).
+use Rattle.std.specs.Prelude.{◌≡◌, ◌⊎◌, ℕ, true, false, IsSome, List, Option, Some, Result, Ok, Err}
+use Rattle.rl_types.specs.declared.faults.Fault.{Fault}
+use Rattle.rl_types.specs.declared.faults.Limit.{Limit}
+use Rattle.rl_types.specs.declared.status.Status.{Status}
+use Rattle.rl_types.specs.declared.status.Status.TheVariants as statuses
+use Rattle.rl_io.specs.Outside.{Held, Rose, Lacks, Appends, AppendsPrefix, KeepsOthers}
+use Rattle.rl_arrays.specs.declared.arrays.Arrays.{Arrays}
+use Rattle.rl_cread.specs.declared.fault.TableFault.{TableFault}
+use Rattle.rl_io.specs.declared.outside.SinkFault.{SinkFault}
+use Rattle.rl_replay.specs.declared.script.ScriptFault.{ScriptFault}
+use Rattle.rl_script.specs.TableNames.{names_in}
+use Rattle.rl_includes.specs.declared.unrolled.Stop.{Stop}
+use Rattle.rl_includes.specs.declared.unrolled.Stop.TheVariants as stop
+use Rattle.rl_words.specs.Runs as words
+use Rattle.rl_words.specs.Runs.{Run, is_printed}
+use Rattle.rl_ends.specs.declared.refusal.Refusal.{Refusal}
+use Rattle.rl_ends.specs.declared.refusal.Refusal.TheVariants as refusals
+use Rattle.rl_ends.specs.Statuses.{status_of}
+use Rattle.rl_ends.specs.Told.{Tells, TellsAs, line_of}
+use Rattle.ragel_run.specs.Files.{IsMisspelled, Gives, IsFaulty}
+use Rattle.ragel_run.specs.Sources.{Stops}
+use Rattle.ragel_run.specs.Replay.{Job, Replays, HasNoDue, DueByFile}
+use Rattle.ragel_run.specs.Upgrade.{Renewal, Renews, HasNoRenewal, DueByRenewal}
+
+-- what a run finds and what it leaves: what the store held and holds, what was written to the output, and counts of faults
+pub record Outside : Type 0 where
+  pub held : Held
+  pub holds : Held
+  pub store_before : ℕ
+  pub store : ℕ
+  pub written_before : Option (List ℕ)
+  pub written : Option (List ℕ)
+  pub output_before : ℕ
+  pub output : ℕ
+
+-- the record of these
+abbrev pub outside : Held → Held → ℕ → ℕ → Option (List ℕ) → Option (List ℕ) → ℕ → ℕ → Outside
+outside held holds store_before store written_before written output_before output = record {
+  held = held;
+  holds = holds;
+  store_before = store_before;
+  store = store;
+  written_before = written_before;
+  written = written;
+  output_before = output_before;
+  output = output;
+}
+
+-- neither the store nor the output failed
+abbrev pub IsFaultless : Outside → Type 0
+IsFaultless o = (o.store ≡ o.store_before) × (o.output ≡ o.output_before)
+
+-- nothing was written to the output, which did not fail
+abbrev pub IsSilent : Outside → Type 0
+IsSilent o = (o.written ≡ o.written_before) × (o.output ≡ o.output_before)
+
+-- ---- what the words say
+
+-- what is said of a replay holds, where they say one
+abbrev pub OfReplay : (Job → Type 0) → Option Run → Type 0
+OfReplay P (Some (words.Replay machine settings spec script)) = P (record { machine = machine; settings = settings; spec = spec; script = script })
+OfReplay P _ = ⊥
+
+-- what is said of an upgrade
+abbrev pub OfRenewal : (Renewal → Type 0) → Option Run → Type 0
+OfRenewal P (Some (words.Upgrade machine out spec)) = P (record { machine = machine; out = out; spec = spec })
+OfRenewal P _ = ⊥
+
+-- they say nothing that is done
+abbrev pub OfNothing : Type 0 → Option Run → Type 0
+OfNothing P (Some (words.Replay machine settings spec script)) = ⊥
+OfNothing P (Some (words.Upgrade machine out spec)) = ⊥
+OfNothing P _ = P
+
+-- one of the three
+abbrev pub Said : (Job → Type 0) → (Renewal → Type 0) → Type 0 → Option Run → Type 0
+Said Replayed Renewed Nothing said = OfReplay Replayed said ⊎ OfRenewal Renewed said ⊎ OfNothing Nothing said
+
+-- ---- why a run has its status
+
+-- a source is refused so; where the count of the store's faults did not rise, the store failed at no file
+abbrev pub IsStoppedBy : Outside → Stop → Job → Type 0
+IsStoppedBy o s job = (is_printed job.spec ≡ false) × Stops (Rose o.store_before o.store) o.held job.machine job.spec s
+
+-- the first file gives tables with whose names the script has a fault
+abbrev pub IsFaultyScript : Outside → Job → Type 0
+IsFaultyScript o job =
+    (a : Arrays) × Gives o.held job.machine job.spec a × (fault : ScriptFault) × IsFaulty o.held job.script (names_in a) fault
+
+-- a file is missing: one of the source's, the printed file, or the script
+abbrev pub IsMissing : Outside → Job → Type 0
+IsMissing o job =
+    ((file : List ℕ) × IsStoppedBy o (stop.Missing file) job) ⊎ ((is_printed job.spec ≡ true) × Lacks o.held job.spec) ⊎ Lacks o.held job.script
+
+-- the section of a printed file is absent or not right
+abbrev pub IsMisread : Outside → Option (List ℕ) → List ℕ → Type 0
+IsMisread o machine spec = (fault : TableFault) × IsMisspelled o.held machine spec fault
+
+abbrev pub HasCause : Outside → Option Run → Status → Type 0
+HasCause o said statuses.Done =
+    (OfReplay (Replays (Appends o.written_before o.written) o.held) said ⊎ OfRenewal (Renews o.held o.holds) said) × IsFaultless o
+HasCause o said statuses.Usage = OfNothing (Unit {0}) said
+HasCause o said statuses.Source = (fault : Fault) × (file : List ℕ) × OfReplay (IsStoppedBy o (stop.Fault fault file)) said
+HasCause o said statuses.Limit = (limit : Limit) × (file : List ℕ) × OfReplay (IsStoppedBy o (stop.Limit limit file)) said
+HasCause o said statuses.Script = OfReplay (IsFaultyScript o) said
+HasCause o said statuses.Tables =
+    OfReplay (λ job. (is_printed job.spec ≡ true) × IsMisread o job.machine job.spec) said
+    ⊎ OfRenewal (λ r. IsMisread o r.machine r.spec) said
+HasCause o said statuses.Outside =
+    Rose o.store_before o.store ⊎ Rose o.output_before o.output ⊎ OfReplay (IsMissing o) said
+    ⊎ OfRenewal (λ r. Lacks o.held r.spec) said
+HasCause o said statuses.Memory = Unit {0}
+
+-- ---- the end
+
+-- a replay up to its end: how it ended, with the cause, and what it leaves
+abbrev pub EndsReplay : {T : Type 0} → Outside → Result T Refusal → Job → Type 0
+EndsReplay o (Ok done) job = Replays (Appends o.written_before o.written) o.held job × IsFaultless o
+EndsReplay o (Err refusals.OutputFailed) job =
+    Replays (AppendsPrefix o.written_before o.written) o.held job × Rose o.output_before o.output × (o.store ≡ o.store_before)
+EndsReplay o (Err refusals.Memory) job = IsSilent o
+EndsReplay o (Err refusal) job = HasNoDue o.held job o.store_before o.store refusal × IsSilent o
+
+-- an upgrade up to its end
+abbrev pub EndsRenewal : {T : Type 0} → Outside → Result T Refusal → Renewal → Type 0
+EndsRenewal o (Ok done) r = Renews o.held o.holds r × IsSilent o × (o.store ≡ o.store_before)
+EndsRenewal o (Err refusal) r = HasNoRenewal o.held o.holds r o.store_before o.store refusal × IsSilent o
+
+-- words that say nothing
+abbrev pub EndsAtWords : {T : Type 0} → Outside → Result T Refusal → Type 0
+EndsAtWords o (Err refusals.Usage) = IsSilent o × (o.store ≡ o.store_before)
+EndsAtWords o (Err refusals.Memory) = IsSilent o × (o.store ≡ o.store_before)
+EndsAtWords o _ = ⊥
+
+-- a run up to its end. Only an upgrade writes to the store, and it keeps every name but the new file's
+abbrev pub Ends : {T : Type 0} → Outside → Option Run → Result T Refusal → Type 0
+Ends o said end =
+    Said (λ job. EndsReplay o end job × (o.holds ≡ o.held)) (λ r. EndsRenewal o end r × KeepsOthers o.held o.holds r.out)
+    (EndsAtWords o end × (o.holds ≡ o.held)) said
+
+-- there is one way to end, with its status, and what the error output answered to its line
+abbrev pub EndsTelling : {T : Type 0} → Outside → Option Run → Option (List ℕ) → Option (List ℕ) → ℕ → ℕ → Status
+    → Result T SinkFault → Type 0
+EndsTelling o said old new before now status told =
+    (end : Result (Unit {0}) Refusal) × Ends o said end × (status ≡ status_of end) × TellsAs old new before now (line_of end) told
+
+-- there is one way to end, with its status, and the error output gains its line
+abbrev pub EndsWith : Outside → Option Run → Option (List ℕ) → Option (List ℕ) → ℕ → ℕ → Status → Type 0
+EndsWith o said old new before now status =
+    (end : Result (Unit {0}) Refusal) × Ends o said end × (status ≡ status_of end) × Tells old new before now (line_of end)
+
+-- ---- what is due
+
+-- how a run is to end where the store fails at no file
+abbrev pub Due : Held → Option Run → Result (Unit {0}) Refusal → Type 0
+Due held said end = Said (λ job. DueByFile held job end) (λ r. DueByRenewal held r end) (end ≡ Err refusals.Usage) said
+
+-- the store tells what it holds, and no count of faults rose
+pub record HasNoFault (o : Outside) : Type 0 where
+  pub told : IsSome o.held
+  pub store : Rose o.store_before o.store → ⊥
+  pub output : Rose o.output_before o.output → ⊥
+
+-- a run that meets no fault ends as it is to end, or for want of memory
+abbrev pub IsComplete : Outside → Option Run → Option (List ℕ) → Option (List ℕ) → ℕ → ℕ → Status → Type 0
+IsComplete o said old new before now status =
+    HasNoFault o → (end : Result (Unit {0}) Refusal) → Due o.held said end →
+    ((status ≡ status_of end) × Tells old new before now (line_of end)) ⊎ (status ≡ statuses.Memory)
+
+-- ---- the answer
+
+-- the status has its cause, there is one end that has it, and it is the one that is due
+pub record Answers (o : Outside) (said : Option Run) (old new : Option (List ℕ)) (before now : ℕ) (status : Status) : Type 0 where
+  pub cause : HasCause o said status
+  pub ends : EndsWith o said old new before now status
+  pub complete : IsComplete o said old new before now status
