@@ -5,3 +5,4 @@ pub mod Covers
 pub mod Certificates
 pub mod Orders
 pub mod Reduced
+pub mod Texts

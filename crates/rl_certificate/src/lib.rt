@@ -6,9 +6,11 @@ mod certificate;
 mod cover;
 mod order;
 mod right;
+mod text;
 mod views;
 mod walk;
 
 pub use certificate::{Access, Apart, Certificate};
 pub use right::check;
 pub use rl_types::Letter;
+pub use text::certificate_text;

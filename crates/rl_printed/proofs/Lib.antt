@@ -1,0 +1,7 @@
+mod JobLaws
+mod OrderLaws
+mod QuietLaws
+mod EndingLaws
+mod PieceLaws
+mod SoundLaws
+mod NameLaws
