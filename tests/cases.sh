@@ -31,7 +31,7 @@ run_group() {
 }
 
 whole=(01-one-literal 01-several-literals 02-source-faults 03-names 04-operators 05-actions 06-priorities 07-state-actions
-  08-conditions 09-control 10-scanners 11-sessions 13-sections 13-sections-2 15-wide)
+  08-conditions 09-control 10-scanners 11-sessions 12-printed-2 13-sections 13-sections-2 15-wide)
 [ $# -gt 0 ] || set -- "${whole[@]}"
 there=()
 for group; do

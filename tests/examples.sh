@@ -42,6 +42,7 @@ compare() {
 for folder in "$top"/examples/*/; do
   name=${folder%/}
   name=${name##*/}
+  [ -f "$folder/$name.script" ] || continue
   file=examples/$name/$name.rl
   [ -f "$top/$file" ] || file=examples/$name/$name.c
   compare "$file" "examples/$name/$name.script" ''
