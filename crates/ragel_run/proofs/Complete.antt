@@ -24,10 +24,12 @@ use Rattle.rl_ends.specs.declared.refusal.Refusal.TheVariants as refusals
 use Rattle.rl_ends.specs.Statuses.{status_of, status_by_section, status_by_script}
 use Rattle.rl_ends.specs.Told.{Tells, line_of}
 use Rattle.ragel_run.specs.Files.{IsSection, IsSpelled, IsMisspelled, Gives, IsFaulty}
-use Rattle.ragel_run.specs.Replay.{Job, Replays, DueByFile, DueBySource, DueByPrinted, DueByScript, HasNoSource, HasNoSection, HasNoTables, HasTablesAlone, HasNoDue, HasNoLines, refusal_by}
-use Rattle.ragel_run.specs.Upgrade.{Renewal, DueByRenewal}
-use Rattle.ragel_run.specs.Sources.{StopsByItself, IsUnresolved, Stops}
-use Rattle.ragel_run.specs.Ends.{Outside, Said, OfNothing, EndsReplay, EndsRenewal, EndsAtWords, Ends, EndsWith, Due, HasNoFault, HasCause, IsStoppedBy, IsComplete, Answers}
+use Rattle.ragel_run.specs.Replay.{Job, Replays, DueByFile, DueByStop, DueBySource, DueByPrinted, DueByScript, HasNoSource, HasNoSection, HasNoTables, HasTablesAlone, HasNoDue, HasNoLines, refusal_by}
+use Rattle.ragel_run.specs.Upgrade.{Renewal, DueBySection, DueByRenewal}
+use Rattle.ragel_run.specs.Made.{Making, Makes, DueByMaking}
+use Rattle.rl_model.specs.declared.spec.Spec.{Spec}
+use Rattle.ragel_run.specs.Sources.{StopsByItself, IsUnresolved, Stops, HasSource}
+use Rattle.ragel_run.specs.Ends.{Outside, Said, OfMachine, OfNothing, EndsReplay, EndsRenewal, EndsMaking, EndsAtWords, Ends, EndsWith, Due, HasNoFault, HasCause, IsStoppedBy, IsMissing, IsMisread, IsComplete, Answers}
 use Rattle.ragel_run.proofs.MadeLaws.{made_names, same_names, names_alike}
 use Rattle.ragel_run.proofs.SourceLaws.{reads_same, lacks_not, spec_once, stops_once, stops_no_source, unfailed}
 
@@ -45,64 +47,91 @@ FoundByPrinted held job e =
 abbrev FoundByFile : Held → Job → End → Type 0
 FoundByFile held job e = ((is_printed job.spec ≡ false) × DueBySource held job e) ⊎ ((is_printed job.spec ≡ true) × FoundByPrinted held job e)
 
+abbrev FoundByNoSection : Held → Option (List ℕ) → List ℕ → End → Type 0
+FoundByNoSection held machine spec e =
+    (Lacks held spec × (e ≡ Err (refusals.Missing spec))) ⊎ ((fault : TableFault) × IsMisspelled held machine spec fault × (e ≡ Err (refusals.Section fault spec)))
+
+abbrev FoundBySection : Held → Option (List ℕ) → List ℕ → End → Type 0
+FoundBySection held machine spec e =
+    (Lacks held spec × (e ≡ Err (refusals.Missing spec)))
+    ⊎ ((fault : TableFault) × IsMisspelled held machine spec fault × (e ≡ Err (refusals.Section fault spec)))
+    ⊎ ((a : Arrays) × IsSpelled held machine spec a × (e ≡ Ok tt))
+
 abbrev FoundByRenewal : Held → Renewal → End → Type 0
-FoundByRenewal held r e =
-    (Lacks held r.spec × (e ≡ Err (refusals.Missing r.spec)))
-    ⊎ ((fault : TableFault) × IsMisspelled held r.machine r.spec fault × (e ≡ Err (refusals.Section fault r.spec)))
-    ⊎ ((a : Arrays) × IsSpelled held r.machine r.spec a × (e ≡ Ok tt))
+FoundByRenewal held r e = FoundBySection held r.machine r.spec e
+
+abbrev DueBySourceAlone : Held → Option (List ℕ) → List ℕ → End → Type 0
+DueBySourceAlone held machine spec e = DueByStop held machine spec e ⊎ ((source : Spec) × HasSource held machine spec source × (e ≡ Ok tt))
+
+abbrev FoundByMaking : Held → Making → End → Type 0
+FoundByMaking held m e =
+    ((is_printed m.spec ≡ false) × DueBySourceAlone held None m.spec e) ⊎ ((is_printed m.spec ≡ true) × FoundBySection held None m.spec e)
 
 abbrev Found : Held → Option Run → End → Type 0
-Found held said e = Said (λ job. FoundByFile held job e) (λ r. FoundByRenewal held r e) (e ≡ Err refusals.Usage) said
+Found held said e = Said (λ job. FoundByFile held job e) (λ r. FoundByRenewal held r e) (λ m. FoundByMaking held m e) (e ≡ Err refusals.Usage) said
 
 -- two things that are said of the same words
-both : (P Q : Job → Type 0) (R S : Renewal → Type 0) (T U : Type 0) (X : Type 0) (said : Option Run) → ((job : Job) → P job → Q job → X) → ((r : Renewal) → R r → S r → X) → (T → U → X) →
-    Said P R T said → Said Q S U said → X
-both P Q R S T U X (Some (words.Replay m s spec script)) f g h (inl a) (inl b) = f (record { machine = m; settings = s; spec = spec; script = script }) a b
-both P Q R S T U X (Some (words.Replay m s spec script)) f g h (inl a) (inr (inl b)) = absurd b
-both P Q R S T U X (Some (words.Replay m s spec script)) f g h (inl a) (inr (inr b)) = absurd b
-both P Q R S T U X (Some (words.Replay m s spec script)) f g h (inr (inl a)) y = absurd a
-both P Q R S T U X (Some (words.Replay m s spec script)) f g h (inr (inr a)) y = absurd a
-both P Q R S T U X (Some (words.Upgrade m out spec)) f g h (inl a) y = absurd a
-both P Q R S T U X (Some (words.Upgrade m out spec)) f g h (inr (inl a)) (inl b) = absurd b
-both P Q R S T U X (Some (words.Upgrade m out spec)) f g h (inr (inl a)) (inr (inl b)) = g (record { machine = m; out = out; spec = spec }) a b
-both P Q R S T U X (Some (words.Upgrade m out spec)) f g h (inr (inl a)) (inr (inr b)) = absurd b
-both P Q R S T U X (Some (words.Upgrade m out spec)) f g h (inr (inr a)) y = absurd a
-both P Q R S T U X (Some (words.Stream spec entry)) f g h (inr (inr a)) (inr (inr b)) = h a b
-both P Q R S T U X (Some (words.Stream spec entry)) f g h (inr (inr a)) (inr (inl b)) = absurd b
-both P Q R S T U X (Some (words.Stream spec entry)) f g h (inr (inr a)) (inl b) = absurd b
-both P Q R S T U X (Some (words.Stream spec entry)) f g h (inr (inl a)) y = absurd a
-both P Q R S T U X (Some (words.Stream spec entry)) f g h (inl a) y = absurd a
-both P Q R S T U X (Some (words.Make lines spec)) f g h (inr (inr a)) (inr (inr b)) = h a b
-both P Q R S T U X (Some (words.Make lines spec)) f g h (inr (inr a)) (inr (inl b)) = absurd b
-both P Q R S T U X (Some (words.Make lines spec)) f g h (inr (inr a)) (inl b) = absurd b
-both P Q R S T U X (Some (words.Make lines spec)) f g h (inr (inl a)) y = absurd a
-both P Q R S T U X (Some (words.Make lines spec)) f g h (inl a) y = absurd a
-both P Q R S T U X None f g h (inr (inr a)) (inr (inr b)) = h a b
-both P Q R S T U X None f g h (inr (inr a)) (inr (inl b)) = absurd b
-both P Q R S T U X None f g h (inr (inr a)) (inl b) = absurd b
-both P Q R S T U X None f g h (inr (inl a)) y = absurd a
-both P Q R S T U X None f g h (inl a) y = absurd a
+both : (P Q : Job → Type 0) (R S : Renewal → Type 0) (V W : Making → Type 0) (T U : Type 0) (X : Type 0) (said : Option Run) → ((job : Job) → P job → Q job → X) → ((r : Renewal) → R r → S r → X) →
+    ((m : Making) → V m → W m → X) → (T → U → X) → Said P R V T said → Said Q S W U said → X
+both P Q R S V W T U X (Some (words.Replay m s spec script)) f g k h (inl a) (inl b) = f (record { machine = m; settings = s; spec = spec; script = script }) a b
+both P Q R S V W T U X (Some (words.Replay m s spec script)) f g k h (inl a) (inr (inl b)) = absurd b
+both P Q R S V W T U X (Some (words.Replay m s spec script)) f g k h (inl a) (inr (inr (inl b))) = absurd b
+both P Q R S V W T U X (Some (words.Replay m s spec script)) f g k h (inl a) (inr (inr (inr b))) = absurd b
+both P Q R S V W T U X (Some (words.Replay m s spec script)) f g k h (inr (inl a)) y = absurd a
+both P Q R S V W T U X (Some (words.Replay m s spec script)) f g k h (inr (inr (inl a))) y = absurd a
+both P Q R S V W T U X (Some (words.Replay m s spec script)) f g k h (inr (inr (inr a))) y = absurd a
+both P Q R S V W T U X (Some (words.Upgrade m out spec)) f g k h (inl a) y = absurd a
+both P Q R S V W T U X (Some (words.Upgrade m out spec)) f g k h (inr (inl a)) (inl b) = absurd b
+both P Q R S V W T U X (Some (words.Upgrade m out spec)) f g k h (inr (inl a)) (inr (inl b)) = g (record { machine = m; out = out; spec = spec }) a b
+both P Q R S V W T U X (Some (words.Upgrade m out spec)) f g k h (inr (inl a)) (inr (inr (inl b))) = absurd b
+both P Q R S V W T U X (Some (words.Upgrade m out spec)) f g k h (inr (inl a)) (inr (inr (inr b))) = absurd b
+both P Q R S V W T U X (Some (words.Upgrade m out spec)) f g k h (inr (inr (inl a))) y = absurd a
+both P Q R S V W T U X (Some (words.Upgrade m out spec)) f g k h (inr (inr (inr a))) y = absurd a
+both P Q R S V W T U X (Some (words.Make lines spec)) f g k h (inl a) y = absurd a
+both P Q R S V W T U X (Some (words.Make lines spec)) f g k h (inr (inl a)) y = absurd a
+both P Q R S V W T U X (Some (words.Make lines spec)) f g k h (inr (inr (inl a))) (inl b) = absurd b
+both P Q R S V W T U X (Some (words.Make lines spec)) f g k h (inr (inr (inl a))) (inr (inl b)) = absurd b
+both P Q R S V W T U X (Some (words.Make lines spec)) f g k h (inr (inr (inl a))) (inr (inr (inl b))) = k (record { lines = lines; spec = spec }) a b
+both P Q R S V W T U X (Some (words.Make lines spec)) f g k h (inr (inr (inl a))) (inr (inr (inr b))) = absurd b
+both P Q R S V W T U X (Some (words.Make lines spec)) f g k h (inr (inr (inr a))) y = absurd a
+both P Q R S V W T U X (Some (words.Stream spec entry)) f g k h (inl a) y = absurd a
+both P Q R S V W T U X (Some (words.Stream spec entry)) f g k h (inr (inl a)) y = absurd a
+both P Q R S V W T U X (Some (words.Stream spec entry)) f g k h (inr (inr (inl a))) y = absurd a
+both P Q R S V W T U X (Some (words.Stream spec entry)) f g k h (inr (inr (inr a))) (inl b) = absurd b
+both P Q R S V W T U X (Some (words.Stream spec entry)) f g k h (inr (inr (inr a))) (inr (inl b)) = absurd b
+both P Q R S V W T U X (Some (words.Stream spec entry)) f g k h (inr (inr (inr a))) (inr (inr (inl b))) = absurd b
+both P Q R S V W T U X (Some (words.Stream spec entry)) f g k h (inr (inr (inr a))) (inr (inr (inr b))) = h a b
+both P Q R S V W T U X None f g k h (inl a) y = absurd a
+both P Q R S V W T U X None f g k h (inr (inl a)) y = absurd a
+both P Q R S V W T U X None f g k h (inr (inr (inl a))) y = absurd a
+both P Q R S V W T U X None f g k h (inr (inr (inr a))) (inl b) = absurd b
+both P Q R S V W T U X None f g k h (inr (inr (inr a))) (inr (inl b)) = absurd b
+both P Q R S V W T U X None f g k h (inr (inr (inr a))) (inr (inr (inl b))) = absurd b
+both P Q R S V W T U X None f g k h (inr (inr (inr a))) (inr (inr (inr b))) = h a b
 
 -- what follows in each form, or this
-or_else : (P Q : Job → Type 0) (R S : Renewal → Type 0) (T U : Type 0) (M : Type 0) (said : Option Run) → ((job : Job) → P job → Q job ⊎ M) → ((r : Renewal) → R r → S r ⊎ M) → (T → U ⊎ M) →
-    Said P R T said → Said Q S U said ⊎ M
-or_else P Q R S T U M (Some (words.Replay m s spec script)) f g h (inl a) =
-    elim (f (record { machine = m; settings = s; spec = spec; script = script }) a) [ inl b ↦ inl (inl b) | inr x ↦ inr x ]
-or_else P Q R S T U M (Some (words.Replay m s spec script)) f g h (inr (inl a)) = absurd a
-or_else P Q R S T U M (Some (words.Replay m s spec script)) f g h (inr (inr a)) = absurd a
-or_else P Q R S T U M (Some (words.Upgrade m out spec)) f g h (inl a) = absurd a
-or_else P Q R S T U M (Some (words.Upgrade m out spec)) f g h (inr (inl a)) =
-    elim (g (record { machine = m; out = out; spec = spec }) a) [ inl b ↦ inl (inr (inl b)) | inr x ↦ inr x ]
-or_else P Q R S T U M (Some (words.Upgrade m out spec)) f g h (inr (inr a)) = absurd a
-or_else P Q R S T U M (Some (words.Stream spec entry)) f g h (inl a) = absurd a
-or_else P Q R S T U M (Some (words.Stream spec entry)) f g h (inr (inl a)) = absurd a
-or_else P Q R S T U M (Some (words.Stream spec entry)) f g h (inr (inr a)) = elim (h a) [ inl b ↦ inl (inr (inr b)) | inr x ↦ inr x ]
-or_else P Q R S T U M (Some (words.Make lines spec)) f g h (inl a) = absurd a
-or_else P Q R S T U M (Some (words.Make lines spec)) f g h (inr (inl a)) = absurd a
-or_else P Q R S T U M (Some (words.Make lines spec)) f g h (inr (inr a)) = elim (h a) [ inl b ↦ inl (inr (inr b)) | inr x ↦ inr x ]
-or_else P Q R S T U M None f g h (inl a) = absurd a
-or_else P Q R S T U M None f g h (inr (inl a)) = absurd a
-or_else P Q R S T U M None f g h (inr (inr a)) = elim (h a) [ inl b ↦ inl (inr (inr b)) | inr x ↦ inr x ]
+or_else : (P Q : Job → Type 0) (R S : Renewal → Type 0) (V W : Making → Type 0) (T U : Type 0) (M : Type 0) (said : Option Run) → ((job : Job) → P job → Q job ⊎ M) → ((r : Renewal) → R r → S r ⊎ M) →
+    ((m : Making) → V m → W m ⊎ M) → (T → U ⊎ M) → Said P R V T said → Said Q S W U said ⊎ M
+or_else P Q R S V W T U M (Some (words.Replay m s spec script)) f g k h (inl a) = elim (f (record { machine = m; settings = s; spec = spec; script = script }) a) [ inl b ↦ inl (inl b) | inr x ↦ inr x ]
+or_else P Q R S V W T U M (Some (words.Replay m s spec script)) f g k h (inr (inl a)) = absurd a
+or_else P Q R S V W T U M (Some (words.Replay m s spec script)) f g k h (inr (inr (inl a))) = absurd a
+or_else P Q R S V W T U M (Some (words.Replay m s spec script)) f g k h (inr (inr (inr a))) = absurd a
+or_else P Q R S V W T U M (Some (words.Upgrade m out spec)) f g k h (inl a) = absurd a
+or_else P Q R S V W T U M (Some (words.Upgrade m out spec)) f g k h (inr (inl a)) = elim (g (record { machine = m; out = out; spec = spec }) a) [ inl b ↦ inl (inr (inl b)) | inr x ↦ inr x ]
+or_else P Q R S V W T U M (Some (words.Upgrade m out spec)) f g k h (inr (inr (inl a))) = absurd a
+or_else P Q R S V W T U M (Some (words.Upgrade m out spec)) f g k h (inr (inr (inr a))) = absurd a
+or_else P Q R S V W T U M (Some (words.Make lines spec)) f g k h (inl a) = absurd a
+or_else P Q R S V W T U M (Some (words.Make lines spec)) f g k h (inr (inl a)) = absurd a
+or_else P Q R S V W T U M (Some (words.Make lines spec)) f g k h (inr (inr (inl a))) = elim (k (record { lines = lines; spec = spec }) a) [ inl b ↦ inl (inr (inr (inl b))) | inr x ↦ inr x ]
+or_else P Q R S V W T U M (Some (words.Make lines spec)) f g k h (inr (inr (inr a))) = absurd a
+or_else P Q R S V W T U M (Some (words.Stream spec entry)) f g k h (inl a) = absurd a
+or_else P Q R S V W T U M (Some (words.Stream spec entry)) f g k h (inr (inl a)) = absurd a
+or_else P Q R S V W T U M (Some (words.Stream spec entry)) f g k h (inr (inr (inl a))) = absurd a
+or_else P Q R S V W T U M (Some (words.Stream spec entry)) f g k h (inr (inr (inr a))) = elim (h a) [ inl b ↦ inl (inr (inr (inr b))) | inr x ↦ inr x ]
+or_else P Q R S V W T U M None f g k h (inl a) = absurd a
+or_else P Q R S V W T U M None f g k h (inr (inl a)) = absurd a
+or_else P Q R S V W T U M None f g k h (inr (inr (inl a))) = absurd a
+or_else P Q R S V W T U M None f g k h (inr (inr (inr a))) = elim (h a) [ inl b ↦ inl (inr (inr (inr b))) | inr x ↦ inr x ]
 
 -- ---- there is one end
 
@@ -187,22 +216,35 @@ module _ (held : Held) (told : IsSome held) where
   file_once job e f (inr a) (inl b) = absurd (false≢true (sym b.0 ∙ a.0))
   file_once job e f (inr a) (inr b) = printed_once job e f a.1 b.1
 
-  renewal_once : (r : Renewal) (e f : End) → FoundByRenewal held r e → DueByRenewal held r f → e ≡ f
-  renewal_once r e f (inl a) (inl b) = a.1 ∙ sym b.1
-  renewal_once r e f (inl a) (inr (inl b)) = absurd (lacks_not held r.spec b.0 told a.0 b.1)
-  renewal_once r e f (inl a) (inr (inr b)) = absurd (lacks_not held r.spec b.0 told a.0 b.1)
-  renewal_once r e f (inr (inl a)) (inl b) = absurd (lacks_not held r.spec a.1.text told b.0 a.1.reads)
-  renewal_once r e f (inr (inl a)) (inr (inl b)) =
-      a.2 ∙ ap (λ x. Err (refusals.Section x r.spec)) (faults_once r.machine r.spec b.0 a.0 b.2 a.1 b.1 b.3 b.4) ∙ sym b.5
-  renewal_once r e f (inr (inl a)) (inr (inr b)) = absurd (misspelled_not r.machine r.spec b.0 a.0 b.2 a.1 b.1 b.3)
-  renewal_once r e f (inr (inr a)) (inl b) = absurd (lacks_not held r.spec a.1.text told b.0 a.1.reads)
-  renewal_once r e f (inr (inr a)) (inr (inl b)) = absurd (spelled_not r.machine r.spec b.0 a.0 b.2 a.1 b.1 b.3 b.4)
-  renewal_once r e f (inr (inr a)) (inr (inr b)) = a.2 ∙ sym b.4
+  section_once : (machine : Option (List ℕ)) (spec : List ℕ) (e f : End) → FoundBySection held machine spec e → DueBySection held machine spec f → e ≡ f
+  section_once machine spec e f (inl a) (inl b) = a.1 ∙ sym b.1
+  section_once machine spec e f (inl a) (inr (inl b)) = absurd (lacks_not held spec b.0 told a.0 b.1)
+  section_once machine spec e f (inl a) (inr (inr b)) = absurd (lacks_not held spec b.0 told a.0 b.1)
+  section_once machine spec e f (inr (inl a)) (inl b) = absurd (lacks_not held spec a.1.text told b.0 a.1.reads)
+  section_once machine spec e f (inr (inl a)) (inr (inl b)) =
+      a.2 ∙ ap (λ x. Err (refusals.Section x spec)) (faults_once machine spec b.0 a.0 b.2 a.1 b.1 b.3 b.4) ∙ sym b.5
+  section_once machine spec e f (inr (inl a)) (inr (inr b)) = absurd (misspelled_not machine spec b.0 a.0 b.2 a.1 b.1 b.3)
+  section_once machine spec e f (inr (inr a)) (inl b) = absurd (lacks_not held spec a.1.text told b.0 a.1.reads)
+  section_once machine spec e f (inr (inr a)) (inr (inl b)) = absurd (spelled_not machine spec b.0 a.0 b.2 a.1 b.1 b.3 b.4)
+  section_once machine spec e f (inr (inr a)) (inr (inr b)) = a.2 ∙ sym b.4
+
+  source_alone_once : (machine : Option (List ℕ)) (spec : List ℕ) (e f : End) → DueBySourceAlone held machine spec e → DueBySourceAlone held machine spec f → e ≡ f
+  source_alone_once machine spec e f (inl a) (inl b) = a.2 ∙ ap (λ s. Err (refusal_by s)) (stops_once held told machine spec a.0 b.0 a.1 b.1) ∙ sym b.2
+  source_alone_once machine spec e f (inl a) (inr b) = absurd (stops_no_source held told machine spec a.0 b.0 a.1 b.1)
+  source_alone_once machine spec e f (inr a) (inl b) = absurd (stops_no_source held told machine spec b.0 a.0 b.1 a.1)
+  source_alone_once machine spec e f (inr a) (inr b) = a.2 ∙ sym b.2
+
+  making_once : (m : Making) (e f : End) → FoundByMaking held m e → DueByMaking held m f → e ≡ f
+  making_once m e f (inl a) (inl b) = source_alone_once None m.spec e f a.1 b.1
+  making_once m e f (inl a) (inr b) = absurd (false≢true (sym a.0 ∙ b.0))
+  making_once m e f (inr a) (inl b) = absurd (false≢true (sym b.0 ∙ a.0))
+  making_once m e f (inr a) (inr b) = section_once None m.spec e f a.1 b.1
 
   due_once : (said : Option Run) (e f : End) → Found held said e → Due held said f → e ≡ f
   due_once said e f a b =
-      both (λ job. FoundByFile held job e) (λ job. DueByFile held job f) (λ r. FoundByRenewal held r e) (λ r. DueByRenewal held r f) (e ≡ Err refusals.Usage) (f ≡ Err refusals.Usage) (e ≡ f) said
-      (λ job. file_once job e f) (λ r. renewal_once r e f) (λ x y. x ∙ sym y) a b
+      both (λ job. FoundByFile held job e) (λ job. DueByFile held job f) (λ r. FoundByRenewal held r e) (λ r. DueByRenewal held r f)
+      (λ m. FoundByMaking held m e) (λ m. DueByMaking held m f) (e ≡ Err refusals.Usage) (f ≡ Err refusals.Usage) (e ≡ f) said
+      (λ job. file_once job e f) (λ r. section_once r.machine r.spec e f) (λ m. making_once m e f) (λ x y. x ∙ sym y) a b
 
 -- ---- how it ended is found
 
@@ -218,23 +260,24 @@ of_parts held machine spec before now s not (inr a) = inr (unfailed (Rose before
 abbrev OrMemory : Type 0 → End → Type 0
 OrMemory Finds e = Finds ⊎ (status_of e ≡ statuses.Memory)
 
-module _ (held : Held) (job : Job) (before now : ℕ) (not : Rose before now → ⊥) where
-  by_no_source : (e : Refusal) → HasNoSource held job.machine job.spec before now e → OrMemory (DueBySource held job (Err e)) (Err e)
-  by_no_source (refusals.Fault f file) p = inl (inl (stop.Fault f file, of_parts held job.machine job.spec before now (stop.Fault f file) not p, refl))
-  by_no_source (refusals.Limit l file) p = inl (inl (stop.Limit l file, of_parts held job.machine job.spec before now (stop.Limit l file) not p, refl))
-  by_no_source (refusals.Missing file) p = inl (inl (stop.Missing file, of_parts held job.machine job.spec before now (stop.Missing file) not p, refl))
+module _ (held : Held) (machine : Option (List ℕ)) (spec : List ℕ) (before now : ℕ) (not : Rose before now → ⊥) where
+  by_no_source : (e : Refusal) → HasNoSource held machine spec before now e → OrMemory (DueByStop held machine spec (Err e)) (Err e)
+  by_no_source (refusals.Fault f file) p = inl (stop.Fault f file, of_parts held machine spec before now (stop.Fault f file) not p, refl)
+  by_no_source (refusals.Limit l file) p = inl (stop.Limit l file, of_parts held machine spec before now (stop.Limit l file) not p, refl)
+  by_no_source (refusals.Missing file) p = inl (stop.Missing file, of_parts held machine spec before now (stop.Missing file) not p, refl)
   by_no_source (refusals.StoreFailed file) p = absurd (not p.0)
   by_no_source refusals.Memory p = inr refl
   by_no_source _ p = absurd p
 
-  by_no_section : (e : Refusal) → HasNoSection held job.machine job.spec before now e → OrMemory (FoundByPrinted held job (Err e)) (Err e)
+  by_no_section : (e : Refusal) → HasNoSection held machine spec before now e → OrMemory (FoundByNoSection held machine spec (Err e)) (Err e)
   by_no_section (refusals.Missing file) p = inl (inl (p.0, ap (λ n. Err (refusals.Missing n)) p.1))
   by_no_section (refusals.StoreFailed file) p = absurd (not p.0)
   by_no_section (refusals.Section fault file) (inl memory, named, quiet) = inr (ap (λ x. status_by_section x) memory)
-  by_no_section (refusals.Section fault file) (inr bad, named, quiet) = inl (inr (inl (fault, bad, ap (λ n. Err (refusals.Section fault n)) named)))
+  by_no_section (refusals.Section fault file) (inr bad, named, quiet) = inl (inr (fault, bad, ap (λ n. Err (refusals.Section fault n)) named))
   by_no_section refusals.Memory p = inr refl
   by_no_section _ p = absurd p
 
+module _ (held : Held) (job : Job) (before now : ℕ) (not : Rose before now → ⊥) where
   by_no_lines : (names : Names) (e : Refusal) → HasNoLines held job.script names before now e → OrMemory (DueByScript held job.script names (Err e)) (Err e)
   by_no_lines names (refusals.Missing file) p = inl (inl (p.0, ap (λ n. Err (refusals.Missing n)) p.1))
   by_no_lines names (refusals.StoreFailed file) p = absurd (not p.0)
@@ -244,8 +287,13 @@ module _ (held : Held) (job : Job) (before now : ℕ) (not : Rose before now →
   by_no_lines names _ p = absurd p
 
   by_tables : (e : Refusal) → HasNoTables held job.machine job.spec before now e → OrMemory (FoundByFile held job (Err e)) (Err e)
-  by_tables e (inl p) = elim (by_no_source e p.1) [ inl found ↦ inl (inl (p.0, found)) | inr memory ↦ inr memory ]
-  by_tables e (inr p) = elim (by_no_section e p.1) [ inl found ↦ inl (inr (p.0, found)) | inr memory ↦ inr memory ]
+  by_tables e (inl p) = elim (by_no_source held job.machine job.spec before now not e p.1) [ inl found ↦ inl (inl (p.0, inl found)) | inr memory ↦ inr memory ]
+  by_tables e (inr p) =
+      elim (by_no_section held job.machine job.spec before now not e p.1) [
+        | inl (inl found) ↦ inl (inr (p.0, inl found))
+        | inl (inr found) ↦ inl (inr (p.0, inr (inl found)))
+        | inr memory ↦ inr memory
+      ]
 
   given : (a : Arrays) (e : End) → Gives held job.machine job.spec a → DueByScript held job.script (names_in a) e → FoundByFile held job e
   given a e (inl g) d = inl (g.0, inr (names_in a, made_names held job.machine job.spec a g.1, d))
@@ -257,6 +305,20 @@ module _ (held : Held) (job : Job) (before now : ℕ) (not : Rose before now →
   by_file : (e : Refusal) → HasNoDue held job before now e → OrMemory (FoundByFile held job (Err e)) (Err e)
   by_file e (inl p) = by_tables e p
   by_file e (inr p) = by_lines e p
+
+-- the same of a run over an input that is made
+by_made : (held : Held) (m : Making) (before now : ℕ) → (Rose before now → ⊥) → (e : Refusal) → HasNoTables held None m.spec before now e → OrMemory (FoundByMaking held m (Err e)) (Err e)
+by_made held m before now not e (inl p) = elim (by_no_source held None m.spec before now not e p.1) [ inl found ↦ inl (inl (p.0, inl found)) | inr memory ↦ inr memory ]
+by_made held m before now not e (inr p) =
+    elim (by_no_section held None m.spec before now not e p.1) [
+      | inl (inl found) ↦ inl (inr (p.0, inl found))
+      | inl (inr found) ↦ inl (inr (p.0, inr (inl found)))
+      | inr memory ↦ inr memory
+    ]
+
+made_found : (held : Held) (m : Making) (a : Arrays) → Gives held None m.spec a → FoundByMaking held m (Ok tt)
+made_found held m a (inl g) = inl (g.0, inr (g.1.source, g.1.has, refl))
+made_found held m a (inr g) = inr (g.0, inr (inr (a, g.1, refl)))
 
 done_found : (Gains : List ℕ → Type 0) (held : Held) (job : Job) → Replays Gains held job → FoundByFile held job (Ok tt)
 done_found Gains held job (inl r) = inl (r.by_name, inr (r.names, r.has, inr (inr (r.lines, r.admitted, refl))))
@@ -290,6 +352,19 @@ module _ (o : Outside) (n : HasNoFault o) where
   renewal_found r (Err refusals.InputFailed) p = absurd p.0.0
   renewal_found r (Err refusals.OutputFailed) p = absurd p.0.0
 
+  making_found : (m : Making) (e : End) → EndsMaking o e m → OrMemory (FoundByMaking o.held m e) e
+  making_found m (Ok tt) p = inl (made_found o.held m p.0.arrays p.0.given)
+  making_found m (Err refusals.OutputFailed) p = absurd (n.output p.1)
+  making_found m (Err refusals.Memory) p = inr refl
+  making_found m (Err refusals.Usage) p = by_made o.held m o.store_before o.store n.store refusals.Usage p.0
+  making_found m (Err (refusals.Fault f file)) p = by_made o.held m o.store_before o.store n.store (refusals.Fault f file) p.0
+  making_found m (Err (refusals.Limit l file)) p = by_made o.held m o.store_before o.store n.store (refusals.Limit l file) p.0
+  making_found m (Err (refusals.Missing file)) p = by_made o.held m o.store_before o.store n.store (refusals.Missing file) p.0
+  making_found m (Err (refusals.StoreFailed file)) p = by_made o.held m o.store_before o.store n.store (refusals.StoreFailed file) p.0
+  making_found m (Err (refusals.Section f file)) p = by_made o.held m o.store_before o.store n.store (refusals.Section f file) p.0
+  making_found m (Err (refusals.Script f file)) p = by_made o.held m o.store_before o.store n.store (refusals.Script f file) p.0
+  making_found m (Err refusals.InputFailed) p = by_made o.held m o.store_before o.store n.store refusals.InputFailed p.0
+
   words_found : (e : End) → EndsAtWords o e → OrMemory (e ≡ Err refusals.Usage) e
   words_found (Ok tt) p = absurd p
   words_found (Err refusals.Usage) p = inl refl
@@ -299,8 +374,8 @@ module _ (o : Outside) (n : HasNoFault o) where
   ends_found : (said : Option Run) (e : End) → Ends o said e → OrMemory (Found o.held said e) e
   ends_found said e p =
       or_else (λ job. EndsReplay o e job × (o.holds ≡ o.held)) (λ job. FoundByFile o.held job e) (λ r. EndsRenewal o e r × KeepsOthers o.held o.holds r.out) (λ r. FoundByRenewal o.held r e)
-      (EndsAtWords o e × (o.holds ≡ o.held)) (e ≡ Err refusals.Usage) (status_of e ≡ statuses.Memory) said
-      (λ job q. replay_found job e q.0) (λ r q. renewal_found r e q.0) (λ q. words_found e q.0) p
+      (λ m. EndsMaking o e m × (o.holds ≡ o.held)) (λ m. FoundByMaking o.held m e) (EndsAtWords o e × (o.holds ≡ o.held)) (e ≡ Err refusals.Usage) (status_of e ≡ statuses.Memory) said
+      (λ job q. replay_found job e q.0) (λ r q. renewal_found r e q.0) (λ m q. making_found m e q.0) (λ q. words_found e q.0) p
 
 pub complete : (o : Outside) (said : Option Run) (old new : Option (List ℕ)) (before now : ℕ) (status : Status) → EndsWith o said old new before now status → IsComplete o said old new before now status
 complete o said old new before now status w n end due = elim (ends_found o n said w.0 w.1) [
@@ -311,6 +386,43 @@ complete o said old new before now status w n end due = elim (ends_found o n sai
 
 -- ---- causes
 
+-- how a file that gives no tables is told in a cause, by words that name it and its machine
+module _ (o : Outside) (said : Option Run) (machine : Option (List ℕ)) (spec : List ℕ) (of : (P : Option (List ℕ) → List ℕ → Type 0) → P machine spec → OfMachine P said) where
+  stopped_of : (s : Stop) → is_printed spec ≡ false → Parts o.held machine spec o.store_before o.store s → IsStoppedBy o s machine spec
+  stopped_of s e (inl a) = (e, inl a.0)
+  stopped_of s e (inr a) = (e, inr a)
+
+  no_source_cause : (e : Refusal) → is_printed spec ≡ false → HasNoSource o.held machine spec o.store_before o.store e → HasCause o said (status_of {T = Unit {0}} (Err e))
+  no_source_cause (refusals.Fault f file) b p = (f, file, of (IsStoppedBy o (stop.Fault f file)) (stopped_of (stop.Fault f file) b p))
+  no_source_cause (refusals.Limit l file) b p = (l, file, of (IsStoppedBy o (stop.Limit l file)) (stopped_of (stop.Limit l file) b p))
+  no_source_cause (refusals.Missing file) b p = inr (inr (inl (of (IsMissing o) (inl (file, stopped_of (stop.Missing file) b p)))))
+  no_source_cause (refusals.StoreFailed file) b p = inl p.0
+  no_source_cause refusals.Memory b p = tt
+  no_source_cause _ b p = absurd p
+
+  misread : (fault : TableFault) → is_printed spec ≡ true → IsMisspelled o.held machine spec fault → HasCause o said statuses.Tables
+  misread fault b p = inl (of (λ machine spec. (is_printed spec ≡ true) × IsMisread o machine spec) (b, (fault, p)))
+
+  section_cause : (fault : TableFault) → is_printed spec ≡ true → (fault ≡ marks.Memory) ⊎ IsMisspelled o.held machine spec fault → HasCause o said (status_by_section fault)
+  section_cause marks.Memory b p = tt
+  section_cause marks.NoSection b (inl e) = absurd (cc e)
+  section_cause marks.NoSection b (inr p) = misread marks.NoSection b p
+  section_cause (marks.BadText line) b (inl e) = absurd (cc e)
+  section_cause (marks.BadText line) b (inr p) = misread (marks.BadText line) b p
+  section_cause (marks.BadValue bad) b (inl e) = absurd (cc e)
+  section_cause (marks.BadValue bad) b (inr p) = misread (marks.BadValue bad) b p
+
+  no_section_cause : (e : Refusal) → is_printed spec ≡ true → HasNoSection o.held machine spec o.store_before o.store e → HasCause o said (status_of {T = Unit {0}} (Err e))
+  no_section_cause (refusals.Missing file) b p = inr (inr (inl (of (IsMissing o) (inr (b, p.0)))))
+  no_section_cause (refusals.StoreFailed file) b p = inl p.0
+  no_section_cause (refusals.Section fault file) b p = section_cause fault b p.0
+  no_section_cause refusals.Memory b p = tt
+  no_section_cause _ b p = absurd p
+
+  no_tables_cause : (e : Refusal) → HasNoTables o.held machine spec o.store_before o.store e → HasCause o said (status_of {T = Unit {0}} (Err e))
+  no_tables_cause e (inl p) = no_source_cause e p.0 p.1
+  no_tables_cause e (inr p) = no_section_cause e p.0 p.1
+
 -- how each refusal of a replay is told in a cause
 module _ (o : Outside) (machine : Option (List ℕ)) (settings : Settings) (spec script : List ℕ) where
   abbrev job : Job
@@ -318,34 +430,6 @@ module _ (o : Outside) (machine : Option (List ℕ)) (settings : Settings) (spec
 
   abbrev said : Option Run
   said = Some (words.Replay machine settings spec script)
-
-  stopped_of : (s : Stop) → is_printed spec ≡ false → Parts o.held machine spec o.store_before o.store s → IsStoppedBy o s job
-  stopped_of s e (inl a) = (e, inl a.0)
-  stopped_of s e (inr a) = (e, inr a)
-
-  no_source_cause : (e : Refusal) → is_printed spec ≡ false → HasNoSource o.held machine spec o.store_before o.store e → HasCause o said (status_of {T = Unit {0}} (Err e))
-  no_source_cause (refusals.Fault f file) b p = (f, file, stopped_of (stop.Fault f file) b p)
-  no_source_cause (refusals.Limit l file) b p = (l, file, stopped_of (stop.Limit l file) b p)
-  no_source_cause (refusals.Missing file) b p = inr (inr (inl (inl (file, stopped_of (stop.Missing file) b p))))
-  no_source_cause (refusals.StoreFailed file) b p = inl p.0
-  no_source_cause refusals.Memory b p = tt
-  no_source_cause _ b p = absurd p
-
-  section_cause : (fault : TableFault) → is_printed spec ≡ true → (fault ≡ marks.Memory) ⊎ IsMisspelled o.held machine spec fault → HasCause o said (status_by_section fault)
-  section_cause marks.Memory b p = tt
-  section_cause marks.NoSection b (inl e) = absurd (cc e)
-  section_cause marks.NoSection b (inr p) = inl (b, (marks.NoSection, p))
-  section_cause (marks.BadText line) b (inl e) = absurd (cc e)
-  section_cause (marks.BadText line) b (inr p) = inl (b, (marks.BadText line, p))
-  section_cause (marks.BadValue bad) b (inl e) = absurd (cc e)
-  section_cause (marks.BadValue bad) b (inr p) = inl (b, (marks.BadValue bad, p))
-
-  no_section_cause : (e : Refusal) → is_printed spec ≡ true → HasNoSection o.held machine spec o.store_before o.store e → HasCause o said (status_of {T = Unit {0}} (Err e))
-  no_section_cause (refusals.Missing file) b p = inr (inr (inl (inr (inl (b, p.0)))))
-  no_section_cause (refusals.StoreFailed file) b p = inl p.0
-  no_section_cause (refusals.Section fault file) b p = section_cause fault b p.0
-  no_section_cause refusals.Memory b p = tt
-  no_section_cause _ b p = absurd p
 
   faulty : (a : Arrays) → Gives o.held machine spec a → (fault : ScriptFault) → (fault ≡ faults.Memory → ⊥) → (fault ≡ faults.Memory) ⊎ IsFaulty o.held script (names_in a) fault → HasCause o said statuses.Script
   faulty a g fault not (inl memory) = absurd (not memory)
@@ -361,15 +445,14 @@ module _ (o : Outside) (machine : Option (List ℕ)) (settings : Settings) (spec
   script_cause a g faults.Memory p = tt
 
   no_lines_cause : (a : Arrays) → Gives o.held machine spec a → (e : Refusal) → HasNoLines o.held script (names_in a) o.store_before o.store e → HasCause o said (status_of {T = Unit {0}} (Err e))
-  no_lines_cause a g (refusals.Missing file) p = inr (inr (inl (inr (inr p.0))))
+  no_lines_cause a g (refusals.Missing file) p = inr (inr (inr (inl p.0)))
   no_lines_cause a g (refusals.StoreFailed file) p = inl p.0
   no_lines_cause a g (refusals.Script fault file) p = script_cause a g fault p.0
   no_lines_cause a g refusals.Memory p = tt
   no_lines_cause a g _ p = absurd p
 
   file_cause : (e : Refusal) → HasNoDue o.held job o.store_before o.store e → HasCause o said (status_of {T = Unit {0}} (Err e))
-  file_cause e (inl (inl p)) = no_source_cause e p.0 p.1
-  file_cause e (inl (inr p)) = no_section_cause e p.0 p.1
+  file_cause e (inl p) = no_tables_cause o said machine spec (λ P q. q) e p
   file_cause e (inr p) = no_lines_cause p.0 p.1 e p.2
 
   replay_cause : (e : End) → EndsReplay o e job → HasCause o said (status_of e)
@@ -403,9 +486,9 @@ module _ (o : Outside) (machine : Option (List ℕ)) (out spec : List ℕ) where
   misread_cause (marks.BadValue bad) (inr p) = inr (marks.BadValue bad, p)
 
   renewal_cause : (e : End) → EndsRenewal o e renewal → HasCause o upgrade (status_of e)
-  renewal_cause (Ok tt) p = (inr p.0, (p.2, p.1.1))
+  renewal_cause (Ok tt) p = (inr (inl p.0), (p.2, p.1.1))
   renewal_cause (Err (refusals.StoreFailed file)) p = inl p.0.0
-  renewal_cause (Err (refusals.Missing file)) p = inr (inr (inr p.0.0.0))
+  renewal_cause (Err (refusals.Missing file)) p = inr (inr (inr (inr p.0.0.0)))
   renewal_cause (Err (refusals.Section fault file)) p = misread_cause fault p.0.0.0
   renewal_cause (Err refusals.Memory) p = tt
   renewal_cause (Err refusals.Usage) p = absurd p.0.0
@@ -414,6 +497,20 @@ module _ (o : Outside) (machine : Option (List ℕ)) (out spec : List ℕ) where
   renewal_cause (Err (refusals.Script f file)) p = absurd p.0.0
   renewal_cause (Err refusals.InputFailed) p = absurd p.0.0
   renewal_cause (Err refusals.OutputFailed) p = absurd p.0.0
+
+-- the same of an input that is made
+making_cause : (o : Outside) (lines : ℕ) (spec : List ℕ) (e : End) → EndsMaking o e (record { lines = lines; spec = spec }) → HasCause o (Some (words.Make lines spec)) (status_of e)
+making_cause o lines spec (Ok tt) p = (inr (inr p.0), p.1)
+making_cause o lines spec (Err refusals.OutputFailed) p = inr (inl p.1)
+making_cause o lines spec (Err refusals.Memory) p = tt
+making_cause o lines spec (Err refusals.Usage) p = no_tables_cause o (Some (words.Make lines spec)) None spec (λ P q. q) refusals.Usage p.0
+making_cause o lines spec (Err (refusals.Fault f file)) p = no_tables_cause o (Some (words.Make lines spec)) None spec (λ P q. q) (refusals.Fault f file) p.0
+making_cause o lines spec (Err (refusals.Limit l file)) p = no_tables_cause o (Some (words.Make lines spec)) None spec (λ P q. q) (refusals.Limit l file) p.0
+making_cause o lines spec (Err (refusals.Missing file)) p = no_tables_cause o (Some (words.Make lines spec)) None spec (λ P q. q) (refusals.Missing file) p.0
+making_cause o lines spec (Err (refusals.StoreFailed file)) p = no_tables_cause o (Some (words.Make lines spec)) None spec (λ P q. q) (refusals.StoreFailed file) p.0
+making_cause o lines spec (Err (refusals.Section f file)) p = no_tables_cause o (Some (words.Make lines spec)) None spec (λ P q. q) (refusals.Section f file) p.0
+making_cause o lines spec (Err (refusals.Script f file)) p = no_tables_cause o (Some (words.Make lines spec)) None spec (λ P q. q) (refusals.Script f file) p.0
+making_cause o lines spec (Err refusals.InputFailed) p = no_tables_cause o (Some (words.Make lines spec)) None spec (λ P q. q) refusals.InputFailed p.0
 
 -- the same of words that say nothing
 words_cause : (o : Outside) (said : Option Run) (e : End) → OfNothing (Unit {0}) said → EndsAtWords o e → HasCause o said (status_of e)
@@ -426,19 +523,24 @@ words_cause o w (Err _) n p = absurd p
 ends_cause : (o : Outside) (said : Option Run) (e : End) → Ends o said e → HasCause o said (status_of e)
 ends_cause o (Some (words.Replay m s spec script)) e (inl p) = replay_cause o m s spec script e p.0
 ends_cause o (Some (words.Replay m s spec script)) e (inr (inl p)) = absurd p
-ends_cause o (Some (words.Replay m s spec script)) e (inr (inr p)) = absurd p
+ends_cause o (Some (words.Replay m s spec script)) e (inr (inr (inl p))) = absurd p
+ends_cause o (Some (words.Replay m s spec script)) e (inr (inr (inr p))) = absurd p
 ends_cause o (Some (words.Upgrade m out spec)) e (inl p) = absurd p
 ends_cause o (Some (words.Upgrade m out spec)) e (inr (inl p)) = renewal_cause o m out spec e p.0
-ends_cause o (Some (words.Upgrade m out spec)) e (inr (inr p)) = absurd p
-ends_cause o (Some (words.Stream spec entry)) e (inl p) = absurd p
-ends_cause o (Some (words.Stream spec entry)) e (inr (inl p)) = absurd p
-ends_cause o (Some (words.Stream spec entry)) e (inr (inr p)) = words_cause o (Some (words.Stream spec entry)) e tt p.0
+ends_cause o (Some (words.Upgrade m out spec)) e (inr (inr (inl p))) = absurd p
+ends_cause o (Some (words.Upgrade m out spec)) e (inr (inr (inr p))) = absurd p
 ends_cause o (Some (words.Make lines spec)) e (inl p) = absurd p
 ends_cause o (Some (words.Make lines spec)) e (inr (inl p)) = absurd p
-ends_cause o (Some (words.Make lines spec)) e (inr (inr p)) = words_cause o (Some (words.Make lines spec)) e tt p.0
+ends_cause o (Some (words.Make lines spec)) e (inr (inr (inl p))) = making_cause o lines spec e p.0
+ends_cause o (Some (words.Make lines spec)) e (inr (inr (inr p))) = absurd p
+ends_cause o (Some (words.Stream spec entry)) e (inl p) = absurd p
+ends_cause o (Some (words.Stream spec entry)) e (inr (inl p)) = absurd p
+ends_cause o (Some (words.Stream spec entry)) e (inr (inr (inl p))) = absurd p
+ends_cause o (Some (words.Stream spec entry)) e (inr (inr (inr p))) = words_cause o (Some (words.Stream spec entry)) e tt p.0
 ends_cause o None e (inl p) = absurd p
 ends_cause o None e (inr (inl p)) = absurd p
-ends_cause o None e (inr (inr p)) = words_cause o None e tt p.0
+ends_cause o None e (inr (inr (inl p))) = absurd p
+ends_cause o None e (inr (inr (inr p))) = words_cause o None e tt p.0
 
 cause : (o : Outside) (said : Option Run) (old new : Option (List ℕ)) (before now : ℕ) (status : Status) → EndsWith o said old new before now status → HasCause o said status
 cause o said old new before now status w = subst (HasCause o said) (sym w.2) (ends_cause o said w.0 w.1)

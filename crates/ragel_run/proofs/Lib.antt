@@ -6,3 +6,4 @@ pub mod MadeLaws
 pub mod Prescribed
 pub mod Steps
 pub mod Complete
+pub mod WordLaws

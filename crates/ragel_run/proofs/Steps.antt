@@ -17,10 +17,13 @@ use Rattle.rl_ends.specs.declared.refusal.Refusal.{Refusal}
 use Rattle.rl_ends.specs.declared.refusal.Refusal.TheVariants as refusals
 use Rattle.rl_ends.specs.Told.{Tells, TellsAs, line_of}
 use Rattle.ragel_run.specs.Files.{Gives, HasScript}
-use Rattle.ragel_run.specs.Replay.{Job, Replays, HasNoSection, HasNoDue, written_by}
+use Rattle.ragel_run.specs.Replay.{Job, Replays, HasNoSection, HasNoTables, HasNoDue, written_by}
 use Rattle.ragel_run.specs.Upgrade.{Renewal, HasNoRenewal}
-use Rattle.ragel_run.specs.Reads.{ReadsSection, ReadsTables, GivesLines, GivesDue, WritesLines, WritesFile, IsNewSection, UpgradesAs}
-use Rattle.ragel_run.specs.Ends.{Outside, outside, IsSilent, EndsReplay, EndsRenewal, Ends, EndsTelling, EndsWith}
+use Rattle.ragel_run.specs.Made.{Making, Makes}
+use Rattle.rl_made.specs.Made.{made_text}
+use Rattle.rl_playback.specs.Defaults.{default_settings}
+use Rattle.ragel_run.specs.Reads.{ReadsSection, ReadsTables, GivesLines, GivesDue, GivesMade, WritesLines, WritesFile, IsNewSection, UpgradesAs}
+use Rattle.ragel_run.specs.Ends.{Outside, outside, IsSilent, EndsReplay, EndsRenewal, EndsMaking, Ends, EndsTelling, EndsWith}
 use Rattle.ragel_run.proofs.MadeLaws.{made_names}
 use Rattle.ragel_run.proofs.Prescribed.{lines_prescribed}
 
@@ -117,6 +120,35 @@ renewed held mid_held holds r a text bytes before mid now end same reads new is 
     by_end (Err refusals.Memory) p = (tt, p)
     by_end (Err _) p = absurd p
 
+-- ---- an input that is made
+
+-- the line of the tables that were read is due
+pub line_given : (held : Held) (m : Making) (a : Arrays) (before now : ℕ) (items : List ℕ) → ReadsTables held None m.spec before now (Ok a) → items ≡ made_text a default_settings m.lines →
+    GivesMade held m before now (Ok items)
+line_given held m a before now items given same = (record { arrays = a; given = given.0; gains = same }, given.1)
+
+-- want of memory behind the tables
+pub line_wanting : (held : Held) (m : Making) (a : Arrays) (before now : ℕ) → ReadsTables held None m.spec before now (Ok a) → GivesMade held m before now (Err refusals.Memory)
+line_wanting held m a before now (inl g, same) = inl (g.0, tt)
+line_wanting held m a before now (inr g, same) = inr (g.0, tt)
+
+makes : (Gains : List ℕ → Type 0) (held : Held) (m : Making) (items : List ℕ) → Makes (λ due. items ≡ due) held m → Gains items → Makes Gains held m
+makes Gains held m items d g = record { arrays = d.arrays; given = d.given; gains = subst Gains d.gains g }
+
+pub not_made : (held : Held) (store_before store : ℕ) (old new : Option (List ℕ)) (before now : ℕ) (m : Making) (e : Refusal) → HasNoTables held None m.spec store_before store e → new ≡ old → now ≡ before →
+    EndsMaking {T = Unit {0}} (outside held held store_before store old new before now) (Err e) m
+not_made held store_before store old new before now m refusals.OutputFailed (inl p) s q = absurd p.1
+not_made held store_before store old new before now m refusals.OutputFailed (inr p) s q = absurd p.1
+not_made held store_before store old new before now m refusals.Memory p s q = (s, q)
+not_made held store_before store old new before now m _ p s q = (p, (s, q))
+
+pub made : (held : Held) (store_before store : ℕ) (old new : Option (List ℕ)) (before now : ℕ) (m : Making) (items : List ℕ) (r : Result (Unit {0}) Refusal) →
+    GivesMade held m store_before store (Ok items) → WritesLines items old new before now r → EndsMaking (outside held held store_before store old new before now) r m
+made held store_before store old new before now m items (Ok done) d p = (makes (Appends old new) held m items d.0 p.0, (d.1, p.1))
+made held store_before store old new before now m items (Err refusals.OutputFailed) d p = (makes (AppendsPrefix old new) held m items d.0 p.0, p.1, d.1)
+made held store_before store old new before now m items (Err refusals.Memory) d p = p
+made held store_before store old new before now m items (Err _) d p = absurd p
+
 -- ---- forms of words
 
 pub ends_renewal : (o : Outside) (r : Renewal) (end : Result (Unit {0}) Refusal) → UpgradesAs r o.held o.holds o.store_before o.store end → IsSilent o → EndsRenewal o end r
@@ -127,13 +159,13 @@ ends_renewal o r (Err e) p s = (p, s)
 pub no_memory : (o : Outside) (said : Option Run) → IsSilent o → o.store ≡ o.store_before → o.holds ≡ o.held → Ends {T = Unit {0}} o said (Err refusals.Memory)
 no_memory o (Some (words.Replay machine settings spec script)) s n h = inl (s, h)
 no_memory o (Some (words.Upgrade machine out spec)) s n h = inr (inl (((tt, h), s), keeps_same o.held o.holds out h))
-no_memory o (Some (words.Stream spec entry)) s n h = inr (inr ((s, n), h))
-no_memory o (Some (words.Make lines spec)) s n h = inr (inr ((s, n), h))
-no_memory o None s n h = inr (inr ((s, n), h))
+no_memory o (Some (words.Make lines spec)) s n h = inr (inr (inl (s, h)))
+no_memory o (Some (words.Stream spec entry)) s n h = inr (inr (inr ((s, n), h)))
+no_memory o None s n h = inr (inr (inr ((s, n), h)))
 
 -- words that say nothing
 pub no_words : (o : Outside) (said : Option Run) → said ≡ None → IsSilent o → o.store ≡ o.store_before → o.holds ≡ o.held → Ends {T = Unit {0}} o said (Err refusals.Usage)
-no_words o said none s n h = subst (λ x. Ends {T = Unit {0}} o x (Err refusals.Usage)) (sym none) (inr (inr ((s, n), h)))
+no_words o said none s n h = subst (λ x. Ends {T = Unit {0}} o x (Err refusals.Usage)) (sym none) (inr (inr (inr ((s, n), h))))
 
 -- what is said of the words as the parser took them is said of the words
 pub said_here : (o : Outside) (words : List (List ℕ)) (seen items : List (Bor (List ℕ))) (said : Option Run) (end : Result (Unit {0}) Refusal) → seen ≡ items → texts items ≡ words → run_of (texts seen) ≡ said →

@@ -1,5 +1,5 @@
 -- How `ragel-run` ends, when it ends how, and what is told of it (this profile).
-use Rattle.std.specs.Prelude.{◌≡◌, ◌⊎◌, ℕ, true, false, IsSome, List, Option, Some, Result, Ok, Err}
+use Rattle.std.specs.Prelude.{◌≡◌, ◌⊎◌, ℕ, true, false, IsSome, List, Option, Some, None, Result, Ok, Err}
 use Rattle.rl_types.specs.declared.faults.Fault.{Fault}
 use Rattle.rl_types.specs.declared.faults.Limit.{Limit}
 use Rattle.rl_types.specs.declared.status.Status.{Status}
@@ -20,8 +20,9 @@ use Rattle.rl_ends.specs.Statuses.{status_of}
 use Rattle.rl_ends.specs.Told.{Tells, TellsAs, line_of}
 use Rattle.ragel_run.specs.Files.{IsMisspelled, Gives, IsFaulty}
 use Rattle.ragel_run.specs.Sources.{Stops}
-use Rattle.ragel_run.specs.Replay.{Job, Replays, HasNoDue, DueByFile}
+use Rattle.ragel_run.specs.Replay.{Job, Replays, HasNoTables, HasNoDue, DueByFile}
 use Rattle.ragel_run.specs.Upgrade.{Renewal, Renews, HasNoRenewal, DueByRenewal}
+use Rattle.ragel_run.specs.Made.{Making, Makes, DueByMaking}
 
 -- what a run finds and what it leaves: what the store held and holds, what was written to the output, and counts of faults
 pub record Outside : Type 0 where
@@ -67,31 +68,43 @@ abbrev pub OfRenewal : (Renewal → Type 0) → Option Run → Type 0
 OfRenewal P (Some (words.Upgrade machine out spec)) = P (record { machine = machine; out = out; spec = spec })
 OfRenewal P _ = ⊥
 
+-- what is said of an input that is made
+abbrev pub OfMaking : (Making → Type 0) → Option Run → Type 0
+OfMaking P (Some (words.Make lines spec)) = P (record { lines = lines; spec = spec })
+OfMaking P _ = ⊥
+
+-- what is said of the machine that runs in a replay or over an input that is made: its name, if they give one, and its file
+abbrev pub OfMachine : (Option (List ℕ) → List ℕ → Type 0) → Option Run → Type 0
+OfMachine P (Some (words.Replay machine settings spec script)) = P machine spec
+OfMachine P (Some (words.Make lines spec)) = P None spec
+OfMachine P _ = ⊥
+
 -- they say nothing that is done
 abbrev pub OfNothing : Type 0 → Option Run → Type 0
 OfNothing P (Some (words.Replay machine settings spec script)) = ⊥
 OfNothing P (Some (words.Upgrade machine out spec)) = ⊥
+OfNothing P (Some (words.Make lines spec)) = ⊥
 OfNothing P _ = P
 
--- one of the three
-abbrev pub Said : (Job → Type 0) → (Renewal → Type 0) → Type 0 → Option Run → Type 0
-Said Replayed Renewed Nothing said = OfReplay Replayed said ⊎ OfRenewal Renewed said ⊎ OfNothing Nothing said
+-- one of the four
+abbrev pub Said : (Job → Type 0) → (Renewal → Type 0) → (Making → Type 0) → Type 0 → Option Run → Type 0
+Said Replayed Renewed Made Nothing said = OfReplay Replayed said ⊎ OfRenewal Renewed said ⊎ OfMaking Made said ⊎ OfNothing Nothing said
 
 -- ---- why a run has its status
 
 -- a source is refused so; where the count of the store's faults did not rise, the store failed at no file
-abbrev pub IsStoppedBy : Outside → Stop → Job → Type 0
-IsStoppedBy o s job = (is_printed job.spec ≡ false) × Stops (Rose o.store_before o.store) o.held job.machine job.spec s
+abbrev pub IsStoppedBy : Outside → Stop → Option (List ℕ) → List ℕ → Type 0
+IsStoppedBy o s machine spec = (is_printed spec ≡ false) × Stops (Rose o.store_before o.store) o.held machine spec s
 
 -- the first file gives tables with whose names the script has a fault
 abbrev pub IsFaultyScript : Outside → Job → Type 0
 IsFaultyScript o job =
     (a : Arrays) × Gives o.held job.machine job.spec a × (fault : ScriptFault) × IsFaulty o.held job.script (names_in a) fault
 
--- a file is missing: one of the source's, the printed file, or the script
-abbrev pub IsMissing : Outside → Job → Type 0
-IsMissing o job =
-    ((file : List ℕ) × IsStoppedBy o (stop.Missing file) job) ⊎ ((is_printed job.spec ≡ true) × Lacks o.held job.spec) ⊎ Lacks o.held job.script
+-- a file is missing: one of the source's, or the printed file
+abbrev pub IsMissing : Outside → Option (List ℕ) → List ℕ → Type 0
+IsMissing o machine spec =
+    ((file : List ℕ) × IsStoppedBy o (stop.Missing file) machine spec) ⊎ ((is_printed spec ≡ true) × Lacks o.held spec)
 
 -- the section of a printed file is absent or not right
 abbrev pub IsMisread : Outside → Option (List ℕ) → List ℕ → Type 0
@@ -99,17 +112,18 @@ IsMisread o machine spec = (fault : TableFault) × IsMisspelled o.held machine s
 
 abbrev pub HasCause : Outside → Option Run → Status → Type 0
 HasCause o said statuses.Done =
-    (OfReplay (Replays (Appends o.written_before o.written) o.held) said ⊎ OfRenewal (Renews o.held o.holds) said) × IsFaultless o
+    (OfReplay (Replays (Appends o.written_before o.written) o.held) said ⊎ OfRenewal (Renews o.held o.holds) said
+    ⊎ OfMaking (Makes (Appends o.written_before o.written) o.held) said) × IsFaultless o
 HasCause o said statuses.Usage = OfNothing (Unit {0}) said
-HasCause o said statuses.Source = (fault : Fault) × (file : List ℕ) × OfReplay (IsStoppedBy o (stop.Fault fault file)) said
-HasCause o said statuses.Limit = (limit : Limit) × (file : List ℕ) × OfReplay (IsStoppedBy o (stop.Limit limit file)) said
+HasCause o said statuses.Source = (fault : Fault) × (file : List ℕ) × OfMachine (IsStoppedBy o (stop.Fault fault file)) said
+HasCause o said statuses.Limit = (limit : Limit) × (file : List ℕ) × OfMachine (IsStoppedBy o (stop.Limit limit file)) said
 HasCause o said statuses.Script = OfReplay (IsFaultyScript o) said
 HasCause o said statuses.Tables =
-    OfReplay (λ job. (is_printed job.spec ≡ true) × IsMisread o job.machine job.spec) said
+    OfMachine (λ machine spec. (is_printed spec ≡ true) × IsMisread o machine spec) said
     ⊎ OfRenewal (λ r. IsMisread o r.machine r.spec) said
 HasCause o said statuses.Outside =
-    Rose o.store_before o.store ⊎ Rose o.output_before o.output ⊎ OfReplay (IsMissing o) said
-    ⊎ OfRenewal (λ r. Lacks o.held r.spec) said
+    Rose o.store_before o.store ⊎ Rose o.output_before o.output ⊎ OfMachine (IsMissing o) said
+    ⊎ OfReplay (λ job. Lacks o.held job.script) said ⊎ OfRenewal (λ r. Lacks o.held r.spec) said
 HasCause o said statuses.Memory = Unit {0}
 
 -- ---- the end
@@ -127,6 +141,14 @@ abbrev pub EndsRenewal : {T : Type 0} → Outside → Result T Refusal → Renew
 EndsRenewal o (Ok done) r = Renews o.held o.holds r × IsSilent o × (o.store ≡ o.store_before)
 EndsRenewal o (Err refusal) r = HasNoRenewal o.held o.holds r o.store_before o.store refusal × IsSilent o
 
+-- a run over an input that is made, up to its end
+abbrev pub EndsMaking : {T : Type 0} → Outside → Result T Refusal → Making → Type 0
+EndsMaking o (Ok done) m = Makes (Appends o.written_before o.written) o.held m × IsFaultless o
+EndsMaking o (Err refusals.OutputFailed) m =
+    Makes (AppendsPrefix o.written_before o.written) o.held m × Rose o.output_before o.output × (o.store ≡ o.store_before)
+EndsMaking o (Err refusals.Memory) m = IsSilent o
+EndsMaking o (Err refusal) m = HasNoTables o.held None m.spec o.store_before o.store refusal × IsSilent o
+
 -- words that say nothing
 abbrev pub EndsAtWords : {T : Type 0} → Outside → Result T Refusal → Type 0
 EndsAtWords o (Err refusals.Usage) = IsSilent o × (o.store ≡ o.store_before)
@@ -137,7 +159,7 @@ EndsAtWords o _ = ⊥
 abbrev pub Ends : {T : Type 0} → Outside → Option Run → Result T Refusal → Type 0
 Ends o said end =
     Said (λ job. EndsReplay o end job × (o.holds ≡ o.held)) (λ r. EndsRenewal o end r × KeepsOthers o.held o.holds r.out)
-    (EndsAtWords o end × (o.holds ≡ o.held)) said
+    (λ m. EndsMaking o end m × (o.holds ≡ o.held)) (EndsAtWords o end × (o.holds ≡ o.held)) said
 
 -- there is one way to end, with its status, and what the error output answered to its line
 abbrev pub EndsTelling : {T : Type 0} → Outside → Option Run → Option (List ℕ) → Option (List ℕ) → ℕ → ℕ → Status
@@ -154,7 +176,7 @@ EndsWith o said old new before now status =
 
 -- how a run is to end where the store fails at no file
 abbrev pub Due : Held → Option Run → Result (Unit {0}) Refusal → Type 0
-Due held said end = Said (λ job. DueByFile held job end) (λ r. DueByRenewal held r end) (end ≡ Err refusals.Usage) said
+Due held said end = Said (λ job. DueByFile held job end) (λ r. DueByRenewal held r end) (λ m. DueByMaking held m end) (end ≡ Err refusals.Usage) said
 
 -- the store tells what it holds, and no count of faults rose
 pub record HasNoFault (o : Outside) : Type 0 where

@@ -2,5 +2,6 @@ pub mod Sources
 pub mod Files
 pub mod Replay
 pub mod Upgrade
+pub mod Made
 pub mod Ends
 pub mod Reads

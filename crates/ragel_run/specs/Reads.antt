@@ -1,5 +1,5 @@
 -- What the steps of a run read and write.
-use Rattle.std.specs.Prelude.{◌≡◌, ◌⊎◌, ℕ, List, Option, Some, IfSome, Result, Ok, Err}
+use Rattle.std.specs.Prelude.{◌≡◌, ◌⊎◌, ℕ, List, Option, Some, None, IfSome, Result, Ok, Err}
 use Rattle.rl_types.specs.declared.numbers.Place.{Place}
 use Rattle.rl_io.specs.Outside.{Held, Rose, Lacks, Writes, Appends, AppendsPrefix}
 use Rattle.rl_grammar.specs.declared.syntax.Syntax.{Syntax}
@@ -33,6 +33,7 @@ use Rattle.ragel_run.specs.Files.{IsMade, IsSpelled, Gives, HasScript}
 use Rattle.ragel_run.specs.Sources.{HasTrees, HasSpecs, IsUnread, IsToldAs, running}
 use Rattle.ragel_run.specs.Replay.{Job, Replays, HasNoSource, HasNoSection, HasNoTables, HasNoDue, HasNoLines, written_by}
 use Rattle.ragel_run.specs.Upgrade.{Renewal, Renews, HasNoRenewal}
+use Rattle.ragel_run.specs.Made.{Making, Makes}
 use Rattle.ragel_run.specs.declared.source.Unread.{Unread}
 use Rattle.ragel_run.specs.declared.source.Unread.TheVariants as unread
 
@@ -132,6 +133,11 @@ GivesLines held script a settings before now (Err refusal) = HasNoLines held scr
 abbrev pub GivesDue : Held → Job → ℕ → ℕ → Result (List ℕ) Refusal → Type 0
 GivesDue held job before now (Ok items) = Replays (λ due. items ≡ due) held job × (now ≡ before)
 GivesDue held job before now (Err refusal) = HasNoDue held job before now refusal
+
+-- the line that is due for an input that is made, or why none is
+abbrev pub GivesMade : Held → Making → ℕ → ℕ → Result (List ℕ) Refusal → Type 0
+GivesMade held m before now (Ok items) = Makes (λ due. items ≡ due) held m × (now ≡ before)
+GivesMade held m before now (Err refusal) = HasNoTables held None m.spec before now refusal
 
 -- ---- the output
 

@@ -143,10 +143,14 @@ DueByScript held script names end =
     ⊎ ((fault : ScriptFault) × IsFaulty held script names fault × (end ≡ Err (refusals.Script fault script)))
     ⊎ ((lines : List Line) × HasScript held script names lines × (end ≡ Ok tt))
 
+-- a source is refused so
+abbrev pub DueByStop : Held → Option (List ℕ) → List ℕ → Result (Unit {0}) Refusal → Type 0
+DueByStop held machine spec end = (s : Stop) × Stops ⊥ held machine spec s × (end ≡ Err (refusal_by s))
+
 -- the same of a source and then the script, which is judged by the names of the source
 abbrev pub DueBySource : Held → Job → Result (Unit {0}) Refusal → Type 0
 DueBySource held job end =
-    ((s : Stop) × Stops ⊥ held job.machine job.spec s × (end ≡ Err (refusal_by s)))
+    DueByStop held job.machine job.spec end
     ⊎ ((names : Names) × HasNames held job.machine job.spec names × DueByScript held job.script names end)
 
 -- the same of a printed file: it has no section, or the first bad line or the first wrong element of the section is told

@@ -36,10 +36,14 @@ HasNoRenewal held holds r before now (refusals.StoreFailed file) =
     × (((file ≡ r.spec) × (holds ≡ held)) ⊎ ((file ≡ r.out) × ((a : Arrays) × IsSpelled held r.machine r.spec a)))
 HasNoRenewal held holds r before now e = HasNoSection held r.machine r.spec before now e × (holds ≡ held)
 
--- how an upgrade is to end where the store does not fail
+-- how what needs no more than the section of a printed file is to end where the store does not fail
+abbrev pub DueBySection : Held → Option (List ℕ) → List ℕ → Result (Unit {0}) Refusal → Type 0
+DueBySection held machine spec end =
+    (Lacks held spec × (end ≡ Err (refusals.Missing spec)))
+    ⊎ ((text : List ℕ) × Reads held spec text × (fault : TableFault) × (fault ≢ marks.Memory) × Explains machine text fault
+    × (end ≡ Err (refusals.Section fault spec)))
+    ⊎ ((text : List ℕ) × Reads held spec text × (a : Arrays) × IsSection machine text a × (end ≡ Ok tt))
+
+-- how an upgrade is to end
 abbrev pub DueByRenewal : Held → Renewal → Result (Unit {0}) Refusal → Type 0
-DueByRenewal held r end =
-    (Lacks held r.spec × (end ≡ Err (refusals.Missing r.spec)))
-    ⊎ ((text : List ℕ) × Reads held r.spec text × (fault : TableFault) × (fault ≢ marks.Memory) × Explains r.machine text fault
-    × (end ≡ Err (refusals.Section fault r.spec)))
-    ⊎ ((text : List ℕ) × Reads held r.spec text × (a : Arrays) × IsSection r.machine text a × (end ≡ Ok tt))
+DueByRenewal held r end = DueBySection held r.machine r.spec end

@@ -1,8 +1,9 @@
 //! The program `ragel-run`: it replays a script on a source or on printed tables, and prints each call of the machine's
-//! actions; and it writes printed tables anew in their second version.
+//! actions; it writes printed tables anew in their second version; and it runs a machine over an input that is made.
 #![tactic(auto)]
 
 mod files;
+mod made;
 mod outside;
 mod replay;
 mod section;

@@ -4,8 +4,10 @@ ghost use Rattle.rl_io.specs.Outside.{KeepsOthers};
 ghost use Rattle.rl_words.specs.Runs.{run_of};
 ghost use Rattle.rl_words.specs.Told.{run_told, text_in};
 ghost use Rattle.ragel_run.specs.Ends.{Answers, Ends, EndsReplay, EndsTelling, outside as outside_of};
+ghost use Rattle.ragel_run.specs.Made.{IsCounted};
 ghost use Rattle.ragel_run.specs.Reads.{GivesDue, GivesLines, job_of};
 
+use crate::made::run_made;
 use crate::outside::{script_under, write_lines};
 use crate::tables::read_machine;
 use crate::upgrade::upgrade_file;
@@ -75,6 +77,7 @@ fn run_form<S: Store, O: Sink>(
     store: &mut S,
     out: &mut O,
 ) -> Result<(), Refusal>
+    requires counted { IsCounted (run_told form) }
     ensures { Ends (outside_of (S.held store.old) (S.held store.new) (S.faults store.old) (S.faults store.new) (O.written out.old) (O.written out.new) (O.faults out.old) (O.faults out.new)) (Some (run_told form.entry)) result }
 {
     match form {
@@ -83,7 +86,7 @@ fn run_form<S: Store, O: Sink>(
             upgrade_file(alloc, machine, new_name, spec, store)
         }
         RunWords::Stream(_, _) => Err(Refusal::Usage),
-        RunWords::Make(_, _) => Err(Refusal::Usage),
+        RunWords::Make(lines, spec) => run_made(alloc, lines, spec, store, out),
     }
 }
 
@@ -133,12 +136,16 @@ fn run_telling<S: Store, O: Sink, E: Sink>(
 ///   1,024, `--look` 1 to 4,096, `--token` 1 to 1,048,576.
 /// - `[--machine NAME] --upgrade OUT SPEC.c` writes the section of this machine, or the first, of the printed file in version
 ///   2 to the file OUT, in one call of the store.
+/// - `--make N SPEC` runs the first machine of SPEC, from its start entry on and with the default settings, over an input of N
+///   lines that is made, 1 to 1,000,000, in pieces of 1 to 7 bytes, and ends it. It prints one line on `out`: `make N: B bytes,
+///   P pieces, T tokens, VERDICT`. B and P count the whole input.
 ///
 /// The statuses:
 ///
 /// - `Done`: all files were read. Of a replay `out` gained exactly the lines that the source's expressions prescribe for the
-///   script, or that the machine of the printed tables makes; of an upgrade OUT holds exactly the new section.
-/// - `Usage`: the words have neither form. The line on `err` is `usage`.
+///   script, or that the machine of the printed tables makes; of an upgrade OUT holds exactly the new section; of an
+///   input that is made `out` gained exactly its line.
+/// - `Usage`: the words have none of these forms. The line on `err` is `usage`.
 /// - `Source`: the source has a fault, or a file that it includes; the first is named with its file and its place, as in
 ///   `NAME:1:24: F3 syntax`. A named machine that is absent is `F4 no machine`, one without an instantiation
 ///   `F18 no instance`, both at 1:1.
@@ -152,8 +159,8 @@ fn run_telling<S: Store, O: Sink, E: Sink>(
 ///   store or the output failed in this call (`NAME: store failed`, `output failed`).
 /// - `Memory`: want of memory (`out of memory`). It may come in place of any other status.
 ///
-/// Nothing is written to `out` before the run, and a failed output has a prefix of the lines. A replay leaves the store as it
-/// was. An upgrade leaves every name but OUT as it was, and OUT too unless the store failed to write it. The input is not
+/// Nothing is written to `out` before the run, and a failed output has a prefix of the lines. Only an upgrade changes the
+/// store. It leaves every name but OUT as it was, and OUT too unless the store failed to write it. The input is not
 /// read. What happens to `err` changes no status.
 pub fn replay<S: Store, I: Source, O: Sink, E: Sink>(
     alloc: Global,

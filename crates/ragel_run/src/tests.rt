@@ -1060,6 +1060,71 @@ const OPTIONS: [&Row; 12] = [
     &SOURCE_TO_RENEW,
 ];
 
+const MADE_SOURCE: &str = r"%%{
+machine made;
+action word { }
+action number { }
+action blank { }
+main := |*
+  [a-z]+ => word;
+  [0-9]+ => number;
+  [ \n] => blank;
+*|;
+}%%
+";
+
+const MADE: Row = Row {
+    files: &[("made.rl", MADE_SOURCE)],
+    words: &["--make", "1000", "made.rl"],
+    out: "make 1000: 7890 bytes, 1974 pieces, 4000 tokens, final\n",
+    ..EMPTY
+};
+
+const MADE_THREE: Row = Row {
+    words: &["--make", "3", "made.rl"],
+    out: "make 3: 15 bytes, 5 pieces, 12 tokens, final\n",
+    ..MADE
+};
+
+const MADE_STOPPED: Row = Row {
+    words: &["--make", "3", "m.rl"],
+    out: "make 3: 15 bytes, 5 pieces, 0 tokens, error\n",
+    ..RAN
+};
+
+const MADE_OF_NOTHING: Row = Row {
+    words: &["--make", "0", "made.rl"],
+    status: Status::Usage,
+    out: "",
+    err: "usage\n",
+    ..MADE
+};
+
+const MADE_WITHOUT_FILE: Row = Row {
+    words: &["--make", "3", "x.c"],
+    status: Status::Outside,
+    out: "",
+    err: "x.c: missing\n",
+    ..MADE
+};
+
+const MADE_UNHEARD: Row = Row {
+    out_fails: 1,
+    status: Status::Outside,
+    out: "",
+    err: "output failed\n",
+    ..MADE
+};
+
+const INPUTS: [&Row; 6] = [
+    &MADE,
+    &MADE_THREE,
+    &MADE_STOPPED,
+    &MADE_OF_NOTHING,
+    &MADE_WITHOUT_FILE,
+    &MADE_UNHEARD,
+];
+
 // What a replay left.
 #[derive(Drop)]
 struct Left {
@@ -1167,6 +1232,12 @@ fn sections_come(rt: HostRuntime) -> Result<(), Fail> {
 #[test]
 fn options_come(rt: HostRuntime) -> Result<(), Fail> {
     assert_eq!(rt; first_wrong(rt.alloc(), &OPTIONS)?, None);
+    Ok(())
+}
+
+#[test]
+fn inputs_come(rt: HostRuntime) -> Result<(), Fail> {
+    assert_eq!(rt; first_wrong(rt.alloc(), &INPUTS)?, None);
     Ok(())
 }
 

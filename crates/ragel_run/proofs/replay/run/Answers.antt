@@ -1,5 +1,7 @@
 use Rattle.std.proofs.Common.{refl}
 use Rattle.ragel_run.proofs.Steps.{said_here, nothing_here, no_words, no_memory}
+use Rattle.ragel_run.proofs.WordLaws.{is_counted}
+use Rattle.rl_words.specs.Told.{run_told, texts}
 use Rattle.ragel_run.specs.Ends.{outside}
 use Rattle.ragel_run.proofs.replay.run.Goals as goal
 
@@ -16,3 +18,6 @@ returns-in-Err-Usage g c =
 
 pub returns : goal.returns
 returns g c = no_memory _ _ (refl, refl) refl refl
+
+pub run_form-requires : goal.run_form-requires
+run_form-requires g c = record { counted = is_counted (texts c.as_slice.result.now) (run_told c.in-Ok-run_words.form) c.in-Ok-run_words.ensures.said }
