@@ -5,5 +5,6 @@ pub mod NameLaws
 pub mod MadeLaws
 pub mod Prescribed
 pub mod Steps
+pub mod StreamSteps
 pub mod Complete
 pub mod WordLaws

@@ -17,6 +17,7 @@ use Rattle.rl_model.specs.Trees.{TestsOf, AreTestsHonest, HasHonestTests, tree_m
 use Rattle.rl_replay.specs.Sessions.{Names, script_of}
 use Rattle.rl_layout.specs.SpecArrays.{name_of}
 use Rattle.rl_make.specs.Named.{Has}
+use Rattle.rl_make.specs.Writes.{entry_names}
 use Rattle.rl_resolve.specs.Descriptions.{Description, description}
 use Rattle.rl_resolve.proofs.ResolveLaws.{same_specification}
 use Rattle.rl_rewrite.specs.Entries.{Made, made_of}
@@ -50,6 +51,10 @@ names_told (e ∷ es) = ap (λ names. e.name ∷ names) (names_told es)
 module _ (a b : Spec) (same : description a ≡ description b) where
   same_count : length a.entries ≡ length b.entries
   same_count = sym (length-map a.entries made_of) ∙ ap (λ (d : Description). length d.entries) same ∙ length-map b.entries made_of
+
+  -- they have the same entries
+  pub same_entries : entry_names a ≡ entry_names b
+  same_entries = names_told a.entries ∙ ap (λ (d : Description). map (λ (m : Made). m.name) d.entries) same ∙ sym (names_told b.entries)
 
   same_used : (names : List (List ℕ)) → AreUsed a names → AreUsed b names
   same_used names used =

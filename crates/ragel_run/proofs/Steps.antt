@@ -23,6 +23,7 @@ use Rattle.ragel_run.specs.Made.{Making, Makes}
 use Rattle.rl_made.specs.Made.{made_text}
 use Rattle.rl_playback.specs.Defaults.{default_settings}
 use Rattle.ragel_run.specs.Reads.{ReadsSection, ReadsTables, GivesLines, GivesDue, GivesMade, WritesLines, WritesFile, IsNewSection, UpgradesAs}
+use Rattle.ragel_run.specs.Streamed.{Input, IsUntouched}
 use Rattle.ragel_run.specs.Ends.{Outside, outside, IsSilent, EndsReplay, EndsRenewal, EndsMaking, Ends, EndsTelling, EndsWith}
 use Rattle.ragel_run.proofs.MadeLaws.{made_names}
 use Rattle.ragel_run.proofs.Prescribed.{lines_prescribed}
@@ -156,21 +157,21 @@ ends_renewal o r (Ok done) p s = (p.0, s, p.1)
 ends_renewal o r (Err e) p s = (p, s)
 
 -- want of memory before anything was done
-pub no_memory : (o : Outside) (said : Option Run) → IsSilent o → o.store ≡ o.store_before → o.holds ≡ o.held → Ends {T = Unit {0}} o said (Err refusals.Memory)
-no_memory o (Some (words.Replay machine settings spec script)) s n h = inl (s, h)
-no_memory o (Some (words.Upgrade machine out spec)) s n h = inr (inl (((tt, h), s), keeps_same o.held o.holds out h))
-no_memory o (Some (words.Make lines spec)) s n h = inr (inr (inl (s, h)))
-no_memory o (Some (words.Stream spec entry)) s n h = inr (inr (inr ((s, n), h)))
-no_memory o None s n h = inr (inr (inr ((s, n), h)))
+pub no_memory : (o : Outside) (i : Input) (said : Option Run) → IsSilent o → o.store ≡ o.store_before → o.holds ≡ o.held → IsUntouched i → Ends {T = Unit {0}} o i said (Err refusals.Memory)
+no_memory o i (Some (words.Replay machine settings spec script)) s n h u = (s, h, u)
+no_memory o i (Some (words.Upgrade machine out spec)) s n h u = (((tt, h), s), keeps_same o.held o.holds out h, u)
+no_memory o i (Some (words.Make lines spec)) s n h u = (s, h, u)
+no_memory o i (Some (words.Stream spec entry)) s n h u = (inl (s, u), h)
+no_memory o i None s n h u = ((s, n), h, u)
 
 -- words that say nothing
-pub no_words : (o : Outside) (said : Option Run) → said ≡ None → IsSilent o → o.store ≡ o.store_before → o.holds ≡ o.held → Ends {T = Unit {0}} o said (Err refusals.Usage)
-no_words o said none s n h = subst (λ x. Ends {T = Unit {0}} o x (Err refusals.Usage)) (sym none) (inr (inr (inr ((s, n), h))))
+pub no_words : (o : Outside) (i : Input) (said : Option Run) → said ≡ None → IsSilent o → o.store ≡ o.store_before → o.holds ≡ o.held → IsUntouched i → Ends {T = Unit {0}} o i said (Err refusals.Usage)
+no_words o i said none s n h u = subst (λ x. Ends {T = Unit {0}} o i x (Err refusals.Usage)) (sym none) ((s, n), h, u)
 
 -- what is said of the words as the parser took them is said of the words
-pub said_here : (o : Outside) (words : List (List ℕ)) (seen items : List (Bor (List ℕ))) (said : Option Run) (end : Result (Unit {0}) Refusal) → seen ≡ items → texts items ≡ words → run_of (texts seen) ≡ said →
-    Ends o said end → Ends o (run_of words) end
-said_here o words seen items said end same is e p = subst (λ x. Ends o x end) (sym e ∙ ap (λ xs. run_of (texts xs)) same ∙ ap (λ ws. run_of ws) is) p
+pub said_here : (o : Outside) (i : Input) (words : List (List ℕ)) (seen items : List (Bor (List ℕ))) (said : Option Run) (end : Result (Unit {0}) Refusal) → seen ≡ items → texts items ≡ words → run_of (texts seen) ≡ said →
+    Ends o i said end → Ends o i (run_of words) end
+said_here o i words seen items said end same is e p = subst (λ x. Ends o i x end) (sym e ∙ ap (λ xs. run_of (texts xs)) same ∙ ap (λ ws. run_of ws) is) p
 
 pub nothing_here : (words : List (List ℕ)) (seen items : List (Bor (List ℕ))) (e : WordsFault) → seen ≡ items → texts items ≡ words → e ≡ words_fault.Usage → RefusesWords (run_of (texts seen)) e → run_of words ≡ None
 nothing_here words seen items e same is usage refused =
@@ -185,7 +186,7 @@ tells_by old new before now line (Ok done) p = inl p
 tells_by old new before now line (Err sink.Failed) p = inr (inl p)
 tells_by old new before now line (Err sink.Memory) p = inr (inr p)
 
-pub ends_with : {T : Type 0} (o : Outside) (said : Option Run) (old new : Option (List ℕ)) (before now : ℕ) (status : Status) (told : Result T SinkFault) →
-    EndsTelling o said old new before now status told →
-    EndsWith o said old new before now status
-ends_with o said old new before now status told (end, ends, same, tells) = (end, ends, same, tells_by old new before now (line_of end) told tells)
+pub ends_with : {T : Type 0} (o : Outside) (i : Input) (said : Option Run) (old new : Option (List ℕ)) (before now : ℕ) (status : Status) (told : Result T SinkFault) →
+    EndsTelling o i said old new before now status told →
+    EndsWith o i said old new before now status
+ends_with o i said old new before now status told (end, ends, same, tells) = (end, ends, same, tells_by old new before now (line_of end) told tells)

@@ -1,5 +1,5 @@
 -- What the steps of a run read and write.
-use Rattle.std.specs.Prelude.{◌≡◌, ◌⊎◌, ℕ, List, Option, Some, None, IfSome, Result, Ok, Err}
+use Rattle.std.specs.Prelude.{◌≡◌, ◌≢◌, ◌⊎◌, ℕ, List, Option, Some, None, IfSome, Result, Ok, Err}
 use Rattle.rl_types.specs.declared.numbers.Place.{Place}
 use Rattle.rl_io.specs.Outside.{Held, Rose, Lacks, Writes, Appends, AppendsPrefix}
 use Rattle.rl_grammar.specs.declared.syntax.Syntax.{Syntax}
@@ -34,6 +34,13 @@ use Rattle.ragel_run.specs.Sources.{HasTrees, HasSpecs, IsUnread, IsToldAs, runn
 use Rattle.ragel_run.specs.Replay.{Job, Replays, HasNoSource, HasNoSection, HasNoTables, HasNoDue, HasNoLines, written_by}
 use Rattle.ragel_run.specs.Upgrade.{Renewal, Renews, HasNoRenewal}
 use Rattle.ragel_run.specs.Made.{Making, Makes}
+use Rattle.rl_arrays.specs.TableMachine.{machine}
+use Rattle.rl_playback.specs.Defaults.{default_settings}
+use Rattle.rl_stream.specs.Lines.{input_name}
+use Rattle.rl_stream.specs.Streams as stream
+use Rattle.rl_stream.specs.declared.fault.StreamFault.{StreamFault}
+use Rattle.rl_stream.specs.declared.fault.StreamFault.TheVariants as stream_faults
+use Rattle.ragel_run.specs.Streamed.{Input, IsUntouched, input_limit, no_entry, number_in}
 use Rattle.ragel_run.specs.declared.source.Unread.{Unread}
 use Rattle.ragel_run.specs.declared.source.Unread.TheVariants as unread
 
@@ -147,6 +154,42 @@ WritesLines lines old new before now (Ok done) = Appends old new lines × (now �
 WritesLines lines old new before now (Err refusals.OutputFailed) = AppendsPrefix old new lines × Rose before now
 WritesLines lines old new before now (Err refusals.Memory) = (new ≡ old) × (now ≡ before)
 WritesLines lines old new before now (Err _) = ⊥
+
+-- ---- the standard input
+
+-- how the fault of a run over it is told, with the name `input`
+abbrev pub refusal_by_stream : StreamFault → List ℕ → Refusal
+refusal_by_stream stream_faults.InputFailed file = refusals.InputFailed
+refusal_by_stream stream_faults.OutputFailed file = refusals.OutputFailed
+refusal_by_stream stream_faults.TooLong file = refusals.Limit input_limit file
+refusal_by_stream stream_faults.Memory file = refusals.Memory
+
+-- the run of tables from an entry on: what it writes, and why it ends before its end
+abbrev pub RunsFrom : {T : Type 0} → Arrays → ℕ → Input → Option (List ℕ) → Option (List ℕ) → ℕ → ℕ → Result T Refusal → Type 0
+RunsFrom a e i old new before now (Ok done) =
+    stream.Streams (machine a) default_settings e i.left_before i.left old new × (now ≡ before) × (i.now ≡ i.before)
+RunsFrom a e i old new before now (Err refusals.OutputFailed) =
+    stream.LeavesFront (machine a) default_settings e i.left_before old new × Rose before now × (i.now ≡ i.before)
+RunsFrom a e i old new before now (Err refusals.InputFailed) =
+    stream.LeavesOpen (machine a) default_settings e i.left_before i.left old new × Rose i.before i.now × (now ≡ before)
+RunsFrom a e i old new before now (Err refusals.Memory) =
+    stream.LeavesEvents (machine a) default_settings e i.left_before old new × (now ≡ before) × (i.now ≡ i.before)
+RunsFrom a e i old new before now (Err (refusals.Limit limit file)) =
+    stream.LeavesEvents (machine a) default_settings e i.left_before old new × (now ≡ before) × (i.now ≡ i.before)
+    × stream.HasTooMany i.left_before × (limit ≡ input_limit) × (file ≡ input_name)
+RunsFrom a e i old new before now (Err _) = ⊥
+
+-- why there is no run: the tables have no such entry, or memory was wanting
+abbrev pub IsNotRun : {T : Type 0} → Arrays → List ℕ → Result T Refusal → Type 0
+IsNotRun a entry (Err (refusals.Script fault file)) = (number_in (names_in a) entry ≡ 0) × (fault ≡ no_entry) × (file ≡ input_name)
+IsNotRun a entry (Err refusals.Memory) = Unit {0}
+IsNotRun a entry _ = ⊥
+
+-- the run of tables from the entry of this name on, or none
+abbrev pub RunsOver : {T : Type 0} → Arrays → List ℕ → Input → Option (List ℕ) → Option (List ℕ) → ℕ → ℕ → Result T Refusal → Type 0
+RunsOver a entry i old new before now end =
+    ((number_in (names_in a) entry ≢ 0) × RunsFrom a (number_in (names_in a) entry) i old new before now end)
+    ⊎ (IsNotRun a entry end × (new ≡ old) × (now ≡ before) × IsUntouched i)
 
 -- ---- the new file
 

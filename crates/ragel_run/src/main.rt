@@ -1,5 +1,6 @@
 //! The program `ragel-run`: it replays a script on a source or on printed tables, and prints each call of the machine's
-//! actions; it writes printed tables anew in their second version; and it runs a machine over an input that is made.
+//! actions; it writes printed tables anew in their second version; and it runs a machine over the standard input, or over one
+//! that is made.
 #![tactic(auto)]
 
 mod files;
@@ -8,6 +9,7 @@ mod outside;
 mod replay;
 mod section;
 mod source;
+mod streamed;
 mod tables;
 #[cfg(test)]
 mod tests;

@@ -6,9 +6,11 @@ ghost use Rattle.rl_words.specs.Told.{run_told, text_in};
 ghost use Rattle.ragel_run.specs.Ends.{Answers, Ends, EndsReplay, EndsTelling, outside as outside_of};
 ghost use Rattle.ragel_run.specs.Made.{IsCounted};
 ghost use Rattle.ragel_run.specs.Reads.{GivesDue, GivesLines, job_of};
+ghost use Rattle.ragel_run.specs.Streamed.{input_of};
 
 use crate::made::run_made;
 use crate::outside::{script_under, write_lines};
+use crate::streamed::run_input;
 use crate::tables::read_machine;
 use crate::upgrade::upgrade_file;
 use crate::words::words_of;
@@ -71,56 +73,59 @@ fn replay_files<S: Store, O: Sink>(
 }
 
 // What is done for a form of words, up to its end.
-fn run_form<S: Store, O: Sink>(
+fn run_form<S: Store, I: Source, O: Sink>(
     alloc: Global,
     form: RunWords<'_>,
     store: &mut S,
+    input: &mut I,
     out: &mut O,
 ) -> Result<(), Refusal>
     requires counted { IsCounted (run_told form) }
-    ensures { Ends (outside_of (S.held store.old) (S.held store.new) (S.faults store.old) (S.faults store.new) (O.written out.old) (O.written out.new) (O.faults out.old) (O.faults out.new)) (Some (run_told form.entry)) result }
+    ensures { Ends (outside_of (S.held store.old) (S.held store.new) (S.faults store.old) (S.faults store.new) (O.written out.old) (O.written out.new) (O.faults out.old) (O.faults out.new)) (input_of (I.left input.old) (I.left input.new) (I.faults input.old) (I.faults input.new)) (Some (run_told form.entry)) result }
 {
     match form {
         RunWords::Replay(job) => replay_files(alloc, &job, store, out),
         RunWords::Upgrade(machine, new_name, spec) => {
             upgrade_file(alloc, machine, new_name, spec, store)
         }
-        RunWords::Stream(_, _) => Err(Refusal::Usage),
+        RunWords::Stream(spec, entry) => run_input(alloc, spec, entry, store, input, out),
         RunWords::Make(lines, spec) => run_made(alloc, lines, spec, store, out),
     }
 }
 
 // What is done for the words, up to its end.
-fn run<S: Store, O: Sink>(
+fn run<S: Store, I: Source, O: Sink>(
     alloc: Global,
     words: &[Text],
     store: &mut S,
+    input: &mut I,
     out: &mut O,
 ) -> Result<(), Refusal>
-    ensures { Ends (outside_of (S.held store.old) (S.held store.new) (S.faults store.old) (S.faults store.new) (O.written out.old) (O.written out.new) (O.faults out.old) (O.faults out.new)) (run_of words.now) result }
+    ensures { Ends (outside_of (S.held store.old) (S.held store.new) (S.faults store.old) (S.faults store.new) (O.written out.old) (O.written out.new) (O.faults out.old) (O.faults out.new)) (input_of (I.left input.old) (I.left input.new) (I.faults input.old) (I.faults input.new)) (run_of words.now) result }
 {
     let Ok(words) = words_of(alloc, words) else {
         return Err(Refusal::Memory);
     };
     match run_words(alloc, words.as_slice()) {
-        Ok(form) => run_form(alloc, form, store, out),
+        Ok(form) => run_form(alloc, form, store, input, out),
         Err(WordsFault::Usage) => Err(Refusal::Usage),
         Err(WordsFault::Memory) => Err(Refusal::Memory),
     }
 }
 
 // The whole run, and what the error output answered to the line of its end.
-fn run_telling<S: Store, O: Sink, E: Sink>(
+fn run_telling<S: Store, I: Source, O: Sink, E: Sink>(
     alloc: Global,
     words: &[Text],
     store: &mut S,
+    input: &mut I,
     out: &mut O,
     err: &mut E,
 ) -> (Status, Result<(), SinkFault>)
-    ensures { EndsTelling (outside_of (S.held store.old) (S.held store.new) (S.faults store.old) (S.faults store.new) (O.written out.old) (O.written out.new) (O.faults out.old) (O.faults out.new)) (run_of words.now)
+    ensures { EndsTelling (outside_of (S.held store.old) (S.held store.new) (S.faults store.old) (S.faults store.new) (O.written out.old) (O.written out.new) (O.faults out.old) (O.faults out.new)) (input_of (I.left input.old) (I.left input.new) (I.faults input.old) (I.faults input.new)) (run_of words.now)
         (E.written err.old) (E.written err.new) (E.faults err.old) (E.faults err.new) result.0 result.1 }
 {
-    let end = run(alloc, words, store, out);
+    let end = run(alloc, words, store, input, out);
     let told = tell(alloc, &end, err);
     (status_for(&end), told)
 }
@@ -139,29 +144,36 @@ fn run_telling<S: Store, O: Sink, E: Sink>(
 /// - `--make N SPEC` runs the first machine of SPEC, from its start entry on and with the default settings, over an input of N
 ///   lines that is made, 1 to 1,000,000, in pieces of 1 to 7 bytes, and ends it. It prints one line on `out`: `make N: B bytes,
 ///   P pieces, T tokens, VERDICT`. B and P count the whole input.
+/// - `SPEC --input ENTRY` runs one session, which is named `input`, of the first machine of SPEC over the standard input, from
+///   this entry on and with the default settings, and ends it. The input is read in blocks of at most 4,096 bytes, and the
+///   lines of each go out before the next is read; they do not depend on how it is cut into blocks.
 ///
 /// The statuses:
 ///
 /// - `Done`: all files were read. Of a replay `out` gained exactly the lines that the source's expressions prescribe for the
 ///   script, or that the machine of the printed tables makes; of an upgrade OUT holds exactly the new section; of an
-///   input that is made `out` gained exactly its line.
+///   input that is made `out` gained exactly its line; of the standard input, which was read to its end, `out` gained
+///   exactly the lines of a script that opens `input`, feeds it all the bytes at once, and ends it.
 /// - `Usage`: the words have none of these forms. The line on `err` is `usage`.
 /// - `Source`: the source has a fault, or a file that it includes; the first is named with its file and its place, as in
 ///   `NAME:1:24: F3 syntax`. A named machine that is absent is `F4 no machine`, one without an instantiation
 ///   `F18 no instance`, both at 1:1.
-/// - `Limit`: the source passes a limit; the first is named, as in `NAME:1:152: L3 parentheses`.
+/// - `Limit`: the source passes a limit; the first is named, as in `NAME:1:152: L3 parentheses`. Or the standard input has more
+///   than 1,099,511,627,776 bytes (`input:1:1: L12 input`).
 /// - `Tables`: the printed file has no section of the machine (`NAME: no section`), or the first line of the section or the
 ///   first element of its arrays that is not right is named, as in `NAME:4: bad text` and `NAME: bad value in trans_targs
 ///   at 1`.
 /// - `Script`: the first line of the script that has none of the forms is named, as in `NAME:2: bad line`; where all have
-///   one, the first with another fault: `twice`, `no session`, `no entry`, `no name` or `full`.
+///   one, the first with another fault: `twice`, `no session`, `no entry`, `no name` or `full`. Or the machine has no ENTRY
+///   (`input:1: no entry`).
 /// - `Outside`: the source, a file that it includes, the printed file or the script is in no file (`NAME: missing`), or the
-///   store or the output failed in this call (`NAME: store failed`, `output failed`).
+///   store, the input or the output failed in this call (`NAME: store failed`, `input failed`, `output failed`).
 /// - `Memory`: want of memory (`out of memory`). It may come in place of any other status.
 ///
 /// Nothing is written to `out` before the run, and a failed output has a prefix of the lines. Only an upgrade changes the
-/// store. It leaves every name but OUT as it was, and OUT too unless the store failed to write it. The input is not
-/// read. What happens to `err` changes no status.
+/// store. It leaves every name but OUT as it was, and OUT too unless the store failed to write it. Only `--input` reads the
+/// input: where this failed, `out` gained the lines of the open session with all bytes that were read, and for want of memory
+/// and past the limit those of whole blocks. What happens to `err` changes no status.
 pub fn replay<S: Store, I: Source, O: Sink, E: Sink>(
     alloc: Global,
     words: &[Text],
@@ -170,10 +182,9 @@ pub fn replay<S: Store, I: Source, O: Sink, E: Sink>(
     out: &mut O,
     err: &mut E,
 ) -> Status
-    ensures answers { Answers (outside_of (S.held store.old) (S.held store.new) (S.faults store.old) (S.faults store.new) (O.written out.old) (O.written out.new) (O.faults out.old) (O.faults out.new)) (run_of words.now)
+    ensures { Answers (outside_of (S.held store.old) (S.held store.new) (S.faults store.old) (S.faults store.new) (O.written out.old) (O.written out.new) (O.faults out.old) (O.faults out.new)) (input_of (I.left input.old) (I.left input.new) (I.faults input.old) (I.faults input.new)) (run_of words.now)
         (E.written err.old) (E.written err.new) (E.faults err.old) (E.faults err.new) result }
-    ensures same_input { (I.left input.new ≡ I.left input.old) × (I.faults input.new ≡ I.faults input.old) }
 {
-    let ended = run_telling(alloc, words, store, out, err);
+    let ended = run_telling(alloc, words, store, input, out, err);
     ended.0
 }

@@ -1125,6 +1125,80 @@ const INPUTS: [&Row; 6] = [
     &MADE_UNHEARD,
 ];
 
+// A row that reads the standard input, whether its bytes come one by one, and the call of it that fails.
+struct Fed {
+    row: Row,
+    by_bytes: bool,
+    input_fails: u64,
+}
+
+const STREAMED: Fed = Fed {
+    row: Row {
+        words: &["m.rl", "--input", "main"],
+        out: "input do x 0\ninput do x 1\ninput end final 2\n",
+        ..RAN
+    },
+    by_bytes: false,
+    input_fails: 0,
+};
+
+const STREAMED_BY_BYTES: Fed = Fed {
+    by_bytes: true,
+    ..STREAMED
+};
+
+const STREAMED_FROM_NOWHERE: Fed = Fed {
+    row: Row {
+        words: &["m.rl", "--input", "word"],
+        status: Status::Script,
+        err: "input:1: no entry\n",
+        ..EMPTY
+    },
+    ..STREAMED
+};
+
+const STREAMED_WITHOUT_FILE: Fed = Fed {
+    row: Row {
+        words: &["x.rl", "--input", "main"],
+        status: Status::Outside,
+        err: "x.rl: missing\n",
+        ..EMPTY
+    },
+    ..STREAMED
+};
+
+const CUT_OFF: Fed = Fed {
+    row: Row {
+        words: &["m.rl", "--input", "main"],
+        status: Status::Outside,
+        out: "input do x 0\n",
+        err: "input failed\n",
+        ..EMPTY
+    },
+    by_bytes: true,
+    input_fails: 2,
+};
+
+const UNHEARD_INPUT: Fed = Fed {
+    row: Row {
+        words: &["m.rl", "--input", "main"],
+        out_fails: 1,
+        status: Status::Outside,
+        err: "output failed\n",
+        ..EMPTY
+    },
+    ..STREAMED
+};
+
+const FED: [&Fed; 6] = [
+    &STREAMED,
+    &STREAMED_BY_BYTES,
+    &STREAMED_FROM_NOWHERE,
+    &STREAMED_WITHOUT_FILE,
+    &CUT_OFF,
+    &UNHEARD_INPUT,
+];
+
 // What a replay left.
 #[derive(Drop)]
 struct Left {
@@ -1150,25 +1224,42 @@ fn words_of(alloc: Global, row: &Row) -> Result<Vec<Text>, Fail> {
     Ok(words)
 }
 
-// The replay of a row; the first call of the error output fails where it is broken.
-fn replayed(alloc: Global, row: &Row, err_fails: u64) -> Result<Left, Fail> {
+// The run of a row over an input; the first call of the error output fails where it is broken.
+fn run_over(alloc: Global, row: &Row, mut input: MemSource, err_fails: u64) -> Result<Left, Fail> {
     let words = words_of(alloc, row)?;
     let mut store = store_of(alloc, row)?;
-    let mut input = MemSource::new(Vec::new(alloc), 1, Vec::new(alloc));
     let mut out = MemSink::new(alloc, vec![in alloc; row.out_fails]?);
     let mut err = MemSink::new(alloc, vec![in alloc; err_fails]?);
     let status = replay(alloc, &words, &mut store, &mut input, &mut out, &mut err);
     Ok(Left { status, out, err })
 }
 
+// The replay of a row, without an input.
+fn replayed(alloc: Global, row: &Row, err_fails: u64) -> Result<Left, Fail> {
+    let input = MemSource::new(Vec::new(alloc), 1, Vec::new(alloc));
+    run_over(alloc, row, input, err_fails)
+}
+
+// Whether what was left is what a row is to leave.
+fn is_left(left: &Left, row: &Row) -> bool {
+    left.status == row.status
+        && left.out.bytes() == row.out.as_bytes()
+        && left.err.bytes() == row.err.as_bytes()
+}
+
 // Whether a row comes as it is to.
 fn comes(alloc: Global, row: &Row) -> Result<bool, Fail> {
     let left = replayed(alloc, row, 0)?;
-    Ok(
-        left.status == row.status
-            && left.out.bytes() == row.out.as_bytes()
-            && left.err.bytes() == row.err.as_bytes(),
-    )
+    Ok(is_left(&left, row))
+}
+
+// Whether a row comes as it is to over the input `ab`.
+fn comes_over(alloc: Global, fed: &Fed) -> Result<bool, Fail> {
+    let bytes = vec![in alloc; b'a', b'b']?;
+    let chunk = if fed.by_bytes { 1 } else { 4096 };
+    let input = MemSource::new(bytes, chunk, vec![in alloc; fed.input_fails]?);
+    let left = run_over(alloc, &fed.row, input, 0)?;
+    Ok(is_left(&left, &fed.row))
 }
 
 // The place of the first row that does not come as it is to.
@@ -1238,6 +1329,14 @@ fn options_come(rt: HostRuntime) -> Result<(), Fail> {
 #[test]
 fn inputs_come(rt: HostRuntime) -> Result<(), Fail> {
     assert_eq!(rt; first_wrong(rt.alloc(), &INPUTS)?, None);
+    Ok(())
+}
+
+#[test]
+fn streams_come(rt: HostRuntime) -> Result<(), Fail> {
+    for fed in FED.iter() {
+        assert!(rt; comes_over(rt.alloc(), fed)?);
+    }
     Ok(())
 }
 

@@ -37,7 +37,7 @@ pub record AreOrdered (es : List MinEdge) : Type 0 where
 pub ordered : (es : List MinEdge) → AreSound es → AreOrdered es
 ordered es s = record { each = λ e i. All-In AreReads es e s.each i; ascending = s.ascending }
 
-rest_ordered : (f : MinEdge) (es : List MinEdge) → AreOrdered (f ∷ es) → AreOrdered es
+pub rest_ordered : (f : MinEdge) (es : List MinEdge) → AreOrdered (f ∷ es) → AreOrdered es
 rest_ordered f es o = record { each = λ e i. o.each e (inr i); ascending = rest_ascends (reads_of f) (map reads_of es) o.ascending }
 
 In-reads : (e : MinEdge) (es : List MinEdge) → In e es → In (reads_of e) (map reads_of es)
@@ -50,12 +50,12 @@ In-reads_from r [] i = absurd i
 In-reads_from r (f ∷ es) (inl q) = (f, inl refl, q)
 In-reads_from r (f ∷ es) (inr i) = let p = In-reads_from r es i in (p.0, inr p.1, p.2)
 
-precedes : (f : MinEdge) (es : List MinEdge) → AreOrdered (f ∷ es) → (e : MinEdge) → In e es → Precedes (reads_of f) (reads_of e)
+pub precedes : (f : MinEdge) (es : List MinEdge) → AreOrdered (f ∷ es) → (e : MinEdge) → In e es → Precedes (reads_of f) (reads_of e)
 precedes f es o e i =
     first_precedes (reads_of f) (map reads_of es) o.ascending
     (λ r j. let p = In-reads_from r es j in subst HasKeys p.2 (o.each p.0 (inr p.1)).keys) (reads_of e) (In-reads e es i)
 
-abbrev Has : ℤ → MinEdge → Type 0
+abbrev pub Has : ℤ → MinEdge → Type 0
 Has k e = in_range k e.range ≡ true
 
 -- a key of both stands in the same range, where the same is asked
@@ -122,10 +122,10 @@ asks_there k es o e i p = asks_all k e.asks.0 es (λ f j q. same_asks k es o f e
 
 -- ---- which edge takes a letter
 
-taken : (l : Letter) (e : MinEdge) → takes l (reads_of e) ≡ true → Has l.key e × (bit_and l.truths e.asks.0 ≡ e.truths.0)
+pub taken : (l : Letter) (e : MinEdge) → takes l (reads_of e) ≡ true → Has l.key e × (bit_and l.truths e.asks.0 ≡ e.truths.0)
 taken l e t = let p = split_and (in_range l.key e.range) (nat_eq (bit_and l.truths e.asks.0) e.truths.0) t in (p.0, eqb-true (bit_and l.truths e.asks.0) e.truths.0 p.1)
 
-takes_from : (l : Letter) (e : MinEdge) → Has l.key e → bit_and l.truths e.asks.0 ≡ e.truths.0 → takes l (reads_of e) ≡ true
+pub takes_from : (l : Letter) (e : MinEdge) → Has l.key e → bit_and l.truths e.asks.0 ≡ e.truths.0 → takes l (reads_of e) ≡ true
 takes_from l e p q = and_true (in_range l.key e.range) (nat_eq (bit_and l.truths e.asks.0) e.truths.0) p (eq-eqb (bit_and l.truths e.asks.0) e.truths.0 q)
 
 -- an edge that takes the letter is the one that is found

@@ -59,7 +59,7 @@ range_front a n h = ap (range_with_len a) (let e : n - a ≡ suc (n - (a + 1)) =
 pub range_none : (a n : ℕ) → n ≤ a → range_with_len a (n - a) ≡ []
 range_none a n h = ap (range_with_len a) (let e : n - a ≡ 0 = omega arith in e)
 
-row_none : (n low high : ℕ) → n ≤ high → pairs_from n low high ≡ flat_map (pairs_with n) (range_with_len (suc low) (n - suc low))
+pub row_none : (n low high : ℕ) → n ≤ high → pairs_from n low high ≡ flat_map (pairs_with n) (range_with_len (suc low) (n - suc low))
 row_none n low high h = ap (λ w. map (λ h. (low, h)) w ++ flat_map (pairs_with n) (range_with_len (suc low) (n - suc low))) (range_none high n h)
 
 pub pairs_none : (n low high : ℕ) → n ≤ high → n ≤ low + 1 → pairs_from n low high ≡ []

@@ -6,3 +6,10 @@ pub mod Certificates
 pub mod Orders
 pub mod Reduced
 pub mod Texts
+pub mod Firsts
+pub mod Rounds
+pub mod Reaches
+pub mod Steps
+pub mod Tables
+pub mod Founds
+pub mod PairTables

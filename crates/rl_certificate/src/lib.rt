@@ -4,13 +4,22 @@
 
 mod certificate;
 mod cover;
+mod fault;
+mod lists;
 mod order;
+mod reach;
 mod right;
+mod rounds;
+mod separating;
+mod steps;
+mod table;
 mod text;
 mod views;
 mod walk;
 
 pub use certificate::{Access, Apart, Certificate};
+pub use fault::CertFault;
 pub use right::check;
 pub use rl_types::Letter;
+pub use separating::separate;
 pub use text::certificate_text;

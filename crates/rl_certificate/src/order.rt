@@ -23,10 +23,10 @@ pub(crate) fn are_states(access: &[Access], states: u32) -> bool
 }
 
 // A pair of states.
-#[derive(Clone, Copy)]
-struct Pair {
-    low: u32,
-    high: u32,
+#[derive(Clone, Copy, Debug)]
+pub(crate) struct Pair {
+    pub(crate) low: u32,
+    pub(crate) high: u32,
 }
 
 // The pair behind this one.

@@ -33,7 +33,7 @@ fn is_access(min: &MinFsm, access: &Access) -> bool
 }
 
 // Whether homes count between the two states.
-fn do_homes_count(min: &MinFsm, low: u32, high: u32) -> bool
+pub(crate) fn do_homes_count(min: &MinFsm, low: u32, high: u32) -> bool
     requires low { low < length min.now.states }
     requires high { high < length min.now.states }
     ensures { result ≡ do_homes_count min.now low high }

@@ -26,7 +26,7 @@ fn edge_for(edges: &[MinEdge], letter: Letter) -> Option<&MinEdge>
 }
 
 // Where the edge of the state that takes the letter leads, if there is one.
-fn target_on(min: &MinFsm, state: u32, letter: Letter) -> Option<u32>
+pub(crate) fn target_on(min: &MinFsm, state: u32, letter: Letter) -> Option<u32>
     requires { state < length min.now.states }
     ensures target { result ≡ target_on min.now state letter }
     ensures there { IfSome result (λ target. target < length min.now.states) }

@@ -97,7 +97,8 @@ leave at_end = if at_end then codes "; goto _out;}" else codes "; goto _again;}"
 -- what a statement prints, by what stands before its `;`
 abbrev pub statement_text : Arrays → Frame → Bool → StatementKind → List ℕ → List ℕ
 statement_text a frame at_end kind.Hold goal = if at_end then codes ";" else filled a.name frame (codes "p--;")
-statement_text a frame at_end kind.Exec goal = filled a.name frame (codes "{p = (") ++ (values_text a frame goal ++ codes ") - 1;}")
+statement_text a frame at_end kind.Exec goal =
+    if at_end then codes ";" else filled a.name frame (codes "{p = (") ++ (values_text a frame goal ++ codes ") - 1;}")
 statement_text a frame at_end kind.Goto goal = filled a.name frame (codes "{cs = ") ++ (target a goal ++ leave at_end)
 statement_text a frame at_end kind.Call goal = filled a.name frame (codes "{stack[top++] = cs; cs = ") ++ (target a goal ++ leave at_end)
 statement_text a frame at_end kind.Ret goal = filled a.name frame (codes "{cs = stack[--top]") ++ leave at_end

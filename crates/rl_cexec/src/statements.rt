@@ -116,7 +116,9 @@ fn push_exec(
 ) -> Result<(), AllocError>
     ensures { OnOk result (text.new.items ≡ text.old.items ++ code.statement_text a.now frame.now at_end kinds.Exec goal.now) }
 {
-    let _ = at_end;
+    if at_end {
+        return text.extend_from_slice(b";");
+    }
     push_filled(text, a.name.bytes(), frame, b"{p = (")?;
     push_values(text, a, frame, goal)?;
     text.extend_from_slice(b") - 1;}")

@@ -10,6 +10,7 @@ use Rattle.rl_model.specs.declared.spec.Spec.{Spec}
 use Rattle.rl_model.specs.Specification.{specification_of}
 use Rattle.rl_model.specs.Trees.{HasHonestTests}
 use Rattle.rl_make.specs.Named.{NamesUsed}
+use Rattle.rl_make.specs.Twins.{RunsAs}
 use Rattle.rl_make.specs.Writes.{WritesAs, condition_names, entry_names}
 use Rattle.rl_script.specs.TableNames.{names_in}
 use Rattle.rl_includes.specs.declared.unrolled.Stop.{Stop}
@@ -22,10 +23,11 @@ use Rattle.rl_compile.specs.declared.fault.CompileFault.TheVariants as faults
 
 -- ---- tables
 
--- arrays are made for a Spec: they are valid, and write what its expressions write, for which there are honest tests; they have
--- the names of its entries and conditions, and of the actions that are used
+-- arrays are made for a Spec: they are valid, make the runs that its expressions make, and write what these write, for which
+-- there are honest tests; they have the names of its entries and conditions, and of the actions that are used
 pub record IsMadeFor (spec : Spec) (a : Arrays) : Type 0 where
   pub valid : Valid a
+  pub runs : RunsAs spec a
   pub writes : WritesAs spec a
   pub tests : HasHonestTests (specification_of spec)
   pub entries : (names_in a).entries ≡ entry_names spec
@@ -60,7 +62,8 @@ runs_of (Some name) = runs.Named name
 abbrev pub RefusesSpecs : Held → List ℕ → Runs → ℕ → ℕ → Stop → Type 0
 RefusesSpecs held name which before now (stop.StoreFailed file) =
     Rose before now × ((file ≡ name) ⊎ IsUnresolved (Rose before now) held name which (stop.StoreFailed file))
-RefusesSpecs held name which before now s = (StopsAtText held name s × (now ≡ before)) ⊎ IsUnresolved (Rose before now) held name which s
+RefusesSpecs held name which before now s =
+    (StopsAtText held name s × (now ≡ before)) ⊎ IsUnresolved (Rose before now) held name which s
 
 -- why a call on a source is refused: as the source stops, or for want of memory
 abbrev pub Because : (Stop → Type 0) → CompileFault → Type 0
@@ -72,4 +75,5 @@ Because Stops faults.Memory = Unit {0}
 
 -- why a source has no section
 abbrev pub RefusesSection : Held → List ℕ → Runs → ℕ → ℕ → Stop → Type 0
-RefusesSection held name which before now s = RefusesSpecs held name which before now s ⊎ (HasNoTables held name which s × (now ≡ before))
+RefusesSection held name which before now s =
+    RefusesSpecs held name which before now s ⊎ (HasNoTables held name which s × (now ≡ before))

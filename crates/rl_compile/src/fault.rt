@@ -1,8 +1,8 @@
 // Why a source does not compile.
 use rl_types::{Fault, Limit, Name};
 
-/// Why a source has no Specs, or a machine of it no tables. The name is that of the file of the place, or of the file that
-/// was to be read, as it was looked up.
+/// Why a source has no Specs, or a machine of it no tables. The name is that of the file of the place, or of the file
+/// that was to be read, as it was looked up.
 #[derive(Debug, Drop)]
 pub enum CompileFault {
     /// The first fault of the source, F1 to F19.

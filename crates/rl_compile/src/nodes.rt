@@ -57,10 +57,11 @@ fn told_by_node(alloc: Global, files: &[Name], refusal: BuildRefusal) -> Compile
     }
 }
 
-/// The tables of a well-formed Spec, as `tables_of` makes them: they write for each script what its expressions write.
+/// The tables of a well-formed Spec, as `tables_of` makes them: they make the runs that its expressions make, and write
+/// for each script what these write.
 ///
-/// The error is the first refused node, with its place and the name of its file: L6, L8, F15 or F12, as `tables_of` tells
-/// it; or `Memory`, which may come at any time.
+/// The error is the first refused node, with its place and the name of its file: L6, L8, F15 or F12, as `tables_of`
+/// tells it; or `Memory`, which may come at any time.
 pub fn tables_for(alloc: Global, spec: &Spec) -> Result<Tables, CompileFault>
     requires { IsWellFormed spec.now }
     ensures buildable { IfOk result (λ _. IsBuildable spec.now) }

@@ -69,8 +69,9 @@ fn runs_of<'a>(machine: Option<&'a str>) -> Runs<'a>
     }
 }
 
-/// The data section of the machine of this name in the source of a file, or of the source's first machine: the bytes that
-/// `write data` stands for. The tables that the section spells write for each script what the machine's expressions write.
+/// The data section of the machine of this name in the source of a file, or of the source's first machine: the bytes
+/// that `write data` stands for. The tables that the section spells make the runs that the machine's expressions make, and
+/// write for each script what these write.
 ///
 /// The error is the first refusal: as `specs_of` tells it, where this machine runs, or the first refused node of the
 /// machine, with its place: L6, L8, F15 or F12. `Memory` may come at any time. The store holds what it held.
@@ -82,7 +83,8 @@ pub fn section_of<S: Store>(
 ) -> Result<List<u8>, CompileFault>
     ensures section { IfOk result (IsSectionIn (S.held store.old) file.now (runs_by machine.entry)) }
     ensures quiet { IfOk result (λ _. S.faults store.new ≡ S.faults store.old) }
-    ensures refused { IfErr result (Because (RefusesSection (S.held store.old) file.now (runs_by machine.entry) (S.faults store.old) (S.faults store.new))) }
+    ensures refused { IfErr result (Because (RefusesSection (S.held store.old) file.now (runs_by machine.entry)
+        (S.faults store.old) (S.faults store.new))) }
     ensures same { S.held store.new ≡ S.held store.old }
 {
     let runs = runs_of(machine);

@@ -1,6 +1,7 @@
 // The Specs of a source.
 ghost use Rattle.std.specs.Prelude.{◌≡◌, All, IfOk, IfErr};
 ghost use Rattle.rl_io.specs.Outside.{Reads};
+ghost use Rattle.rl_printed.specs.Reading.{HaveOwnNames};
 ghost use Rattle.rl_resolve.specs.Answers.{IsFormed, HasRunning};
 ghost use Rattle.rl_compile.specs.Sources.{HasSpecs};
 ghost use Rattle.rl_compile.specs.Sections.{Because, RefusesSpecs};
@@ -74,9 +75,11 @@ fn specs_in<S: Store>(
     store: &mut S,
 ) -> Result<List<Spec>, CompileFault>
     requires { Reads (S.held store.old) name.now text.now }
-    ensures reads { ReadsSpecs (S.held store.old) name.now runs.entry text.now (S.faults store.old) (S.faults store.new) result }
+    ensures reads { ReadsSpecs (S.held store.old) name.now runs.entry text.now
+        (S.faults store.old) (S.faults store.new) result }
     ensures formed { IfOk result (All IsFormed) }
     ensures running { IfOk result (HasRunning runs.entry) }
+    ensures named { IfOk result HaveOwnNames }
     ensures same { S.held store.new ≡ S.held store.old }
 {
     let Ok(file) = name_of(alloc, name.as_bytes()) else {
@@ -99,9 +102,11 @@ pub fn read_source<S: Store>(
     runs: Runs<'_>,
     store: &mut S,
 ) -> Result<(List<u8>, List<Spec>), CompileFault>
-    ensures reads { ReadsSource (S.held store.old) name.now runs.entry (S.faults store.old) (S.faults store.new) result }
+    ensures reads { ReadsSource (S.held store.old) name.now runs.entry
+        (S.faults store.old) (S.faults store.new) result }
     ensures formed { IfOk result (λ read. All IsFormed read.1) }
     ensures running { IfOk result (λ read. HasRunning runs.entry read.1) }
+    ensures named { IfOk result (λ read. HaveOwnNames read.1) }
     ensures same { S.held store.new ≡ S.held store.old }
 {
     let text = match read_text(alloc, name, store) {
@@ -114,9 +119,9 @@ pub fn read_source<S: Store>(
     }
 }
 
-/// The Specs of the source in a file, one for each machine that a `machine` statement (the guide's section 2.1.1) of the
-/// file itself names, in order of first mention. `runs` says which machine the command line runs. The file and those that
-/// it includes are read from the store.
+/// The Specs of the source in a file, one for each machine that a `machine` statement (the guide's section 2.1.1) of
+/// the file itself names, in order of first mention. `runs` says which machine the command line runs. The file and those
+/// that it includes are read from the store.
 ///
 /// The error is the first refusal, each step over the whole before the next (this profile):
 ///
@@ -134,7 +139,8 @@ pub fn specs_of<S: Store>(
 ) -> Result<List<Spec>, CompileFault>
     ensures says { IfOk result (HasSpecs (S.held store.old) file.now runs.entry) }
     ensures quiet { IfOk result (λ _. S.faults store.new ≡ S.faults store.old) }
-    ensures refused { IfErr result (Because (RefusesSpecs (S.held store.old) file.now runs.entry (S.faults store.old) (S.faults store.new))) }
+    ensures refused { IfErr result
+        (Because (RefusesSpecs (S.held store.old) file.now runs.entry (S.faults store.old) (S.faults store.new))) }
     ensures formed { IfOk result (All IsFormed) }
     ensures running { IfOk result (HasRunning runs.entry) }
     ensures same { S.held store.new ≡ S.held store.old }

@@ -8,7 +8,8 @@ ghost use Rattle.rl_made.specs.Stands.{Stands};
 
 use crate::feed::{take_end, take_pieces};
 use crate::input::{made_input, push, push_number};
-use crate::tally::{Names, Tally};
+use crate::tally::Tally;
+use rl_log::Names;
 use rl_run::{Settings, Verdict};
 use rl_sessions::Sessions;
 use rl_tables::Tables;

@@ -11,6 +11,7 @@ ghost use Rattle.rl_model.specs.Trees.{HasHonestTests};
 ghost use Rattle.rl_model.specs.WellFormed.{IsWellFormed};
 ghost use Rattle.rl_build.specs.Entries.{TellsRefusal};
 ghost use Rattle.rl_make.specs.Named.{NamesUsed};
+ghost use Rattle.rl_make.specs.Twins.{RunsAs};
 ghost use Rattle.rl_make.specs.Writes.{IsBuiltOf, WritesAs, condition_names, entry_names};
 ghost use Rattle.rl_script.specs.TableNames.{names_in};
 
@@ -55,6 +56,7 @@ fn laid_out(alloc: Global, spec: &Spec, root: &RootFsm) -> Result<Tables, Memory
     requires built { IsBuiltOf spec.now root.now }
     ensures valid { IfOk result Valid }
     ensures writes { IfOk result (WritesAs spec.now) }
+    ensures runs { IfOk result (RunsAs spec.now) }
     ensures entries { IfOk result (λ t. (names_in t).entries ≡ entry_names spec.now) }
     ensures actions { IfOk result (NamesUsed spec.now) }
     ensures conditions { IfOk result (λ t. (names_in t).conditions ≡ condition_names spec.now) }
@@ -65,8 +67,9 @@ fn laid_out(alloc: Global, spec: &Spec, root: &RootFsm) -> Result<Tables, Memory
 }
 
 /// The tables of a well-formed Spec: the machines of its entries are built, their states get canonical numbers, and they
-/// are laid out in arrays. The tables write for each script what the expressions write. They name the Spec's entries and
-/// conditions, and of its actions those that stand in a list of a state or step which the entries reach.
+/// are laid out in arrays. From each entry they make the runs that the expressions make, and they write for each script what
+/// the expressions write. They name the Spec's entries and conditions, and of its actions those that stand in a list of a state
+/// or step which the entries reach.
 ///
 /// An `Err` tells the first node that is refused, with the entries in text order and the nodes of each in post-order:
 /// `L6`, `L8`, `F15` or `F12`, as `build` says, with its place; or `Memory`, at no place of its own.
@@ -74,6 +77,7 @@ pub fn tables_of(alloc: Global, spec: &Spec) -> Result<Tables, BuildRefusal>
     requires { IsWellFormed spec.now }
     ensures valid { IfOk result Valid }
     ensures writes { IfOk result (WritesAs spec.now) }
+    ensures runs { IfOk result (RunsAs spec.now) }
     ensures entries { IfOk result (λ t. (names_in t).entries ≡ entry_names spec.now) }
     ensures actions { IfOk result (NamesUsed spec.now) }
     ensures conditions { IfOk result (λ t. (names_in t).conditions ≡ condition_names spec.now) }

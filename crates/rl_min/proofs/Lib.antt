@@ -8,3 +8,4 @@ pub mod SoundLaws
 pub mod CanonicalLaws
 pub mod FewestLaws
 pub mod FewerLaws
+pub mod HomeLaws

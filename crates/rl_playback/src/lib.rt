@@ -4,7 +4,6 @@
 mod books;
 mod deeds;
 mod log;
-mod names;
 mod playback;
 mod takes;
 

@@ -7,7 +7,7 @@ ghost use Rattle.rl_replay.specs.Host.{own_answer};
 ghost use Rattle.rl_playback.specs.Log.{AnswersCall, Logs, LogsCall};
 
 use crate::books::{Books, next_answer};
-use crate::names::{Names, name_called};
+use rl_log::{Names, name_called};
 use rl_replay::{answer_by_itself, push_call_line};
 use rl_run::{Answer, Call, CallKind};
 use rl_types::Memory;

@@ -10,7 +10,7 @@ ghost use Rattle.rl_playback.specs.Stands.{Stands};
 use crate::books::books_of;
 use crate::deeds::{feed, finish, open};
 use crate::log::Log;
-use crate::names::Names;
+use rl_log::Names;
 use rl_replay::{Event, Line, Script, push_left_line};
 use rl_run::Settings;
 use rl_sessions::Sessions;

@@ -2,6 +2,6 @@ mod JobLaws
 mod OrderLaws
 mod QuietLaws
 mod EndingLaws
-mod PieceLaws
+pub mod PieceLaws
 mod SoundLaws
-mod NameLaws
+pub mod NameLaws

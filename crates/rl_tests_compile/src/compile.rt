@@ -1,8 +1,8 @@
-// The sections of sources with a store in memory.
-use rl_compile::{CompileFault, section_of, specs_of};
-use rl_io::{MemStore, Store};
+// The sections and the printed files of sources with a store in memory.
+use rl_compile::{CompileFault, compile, section_of, specs_of};
+use rl_io::{MemSink, MemStore, Store};
 use rl_resolve::Runs;
-use rl_types::{FaultKind, List};
+use rl_types::{FaultKind, List, Status, Text};
 use std::alloc::Global;
 use std::test::Fail;
 
@@ -56,14 +56,22 @@ fn section(alloc: Global, text: &str) -> Result<Result<List<u8>, CompileFault>, 
     Ok(section_of(alloc, "m.rl", None, &mut store))
 }
 
+// The section between two texts.
+fn section_between(alloc: Global, before: &str, behind: &str) -> Result<Vec<u8>, Fail> {
+    let mut text = Vec::new(alloc);
+    text.extend_from_slice(before.as_bytes())?;
+    for line in SECTION {
+        text.extend_from_slice(line.as_bytes())?;
+        text.push(b'\n')?;
+    }
+    text.extend_from_slice(behind.as_bytes())?;
+    Ok(text)
+}
+
 #[test]
 fn section_is_printed(rt: HostRuntime) -> Result<(), Fail> {
     let alloc = rt.alloc();
-    let mut wanted = Vec::new(alloc);
-    for line in SECTION {
-        wanted.extend_from_slice(line.as_bytes())?;
-        wanted.push(b'\n')?;
-    }
+    let wanted = section_between(alloc, "", "")?;
     let text = "%%{ machine one; action x { } main := 'ab' $x; write data; }%%";
     match section(alloc, text)? {
         Ok(bytes) => assert_eq!(rt; bytes.as_slice(), wanted.as_slice()),
@@ -104,5 +112,24 @@ fn has_fault(alloc: Global, name: &str, text: &str, kind: FaultKind) -> Result<b
 fn first_fault_is_told(rt: HostRuntime) -> Result<(), Fail> {
     let text = "%%{ machine m; main := x; }%%";
     assert!(rt; has_fault(rt.alloc(), "m.rl", text, FaultKind::F5)?);
+    Ok(())
+}
+
+#[test]
+fn file_is_printed(rt: HostRuntime) -> Result<(), Fail> {
+    let alloc = rt.alloc();
+    let text = "int a;\n%%{ machine one; action x { } main := 'ab' $x; write data; }%%\nint b;\n";
+    let mut store = store_with(alloc, text)?;
+    let mut out = MemSink::new(alloc, Vec::new(alloc));
+    let mut err = MemSink::new(alloc, Vec::new(alloc));
+    let words = vec![in alloc; Text::new("m.rl".to_string(alloc)?)]?;
+    let status = compile(alloc, &words, &mut store, &mut out, &mut err);
+    assert_eq!(rt; status, Status::Done);
+    assert!(rt; err.bytes().is_empty());
+    let wanted = section_between(alloc, "int a;\n", "\nint b;\n")?;
+    match store.bytes_of("m.c") {
+        Some(bytes) => assert_eq!(rt; bytes, wanted.as_slice()),
+        None => assert!(rt; false),
+    }
     Ok(())
 }

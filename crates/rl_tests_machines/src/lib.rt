@@ -24,3 +24,5 @@ mod ops;
 mod refine;
 #[cfg(test)]
 mod scan;
+#[cfg(test)]
+mod separate;

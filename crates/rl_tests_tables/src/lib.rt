@@ -11,6 +11,8 @@ mod replay;
 #[cfg(test)]
 mod runner;
 #[cfg(test)]
+mod streaming;
+#[cfg(test)]
 mod upgrade;
 #[cfg(test)]
 mod window;

@@ -159,19 +159,19 @@ fn assembled(
 }
 
 /// The alphabet's number is 0 for `char`, 2 for `short`.
-fn word(alloc: Global, alphabet: i64) -> Result<Arrays, AllocError> {
+pub fn word(alloc: Global, alphabet: i64) -> Result<Arrays, AllocError> {
     let names = names_of(alloc, &["", "x"])?;
     let lists = lists_of(alloc, &WORD)?;
     Ok(assembled(alloc, 1, 3, alphabet, names, lists))
 }
 
-fn scanner(alloc: Global) -> Result<Arrays, AllocError> {
+pub fn scanner(alloc: Global) -> Result<Arrays, AllocError> {
     let names = names_of(alloc, &["", "A", "B"])?;
     let lists = lists_of(alloc, &SCANNER)?;
     Ok(assembled(alloc, 4, 4, 0, names, lists))
 }
 
-const SETTINGS: Settings = Settings {
+pub const SETTINGS: Settings = Settings {
     stack: 64,
     look: 8,
     token_max: 65536,

@@ -12,4 +12,5 @@ returns-in-Ok-specs_in-clause-reads g c =
     source_read _ _ _ _ _ _ _ _ _ _ c.in-Ok.ensures.same c.as_slice.ensures c.in-Ok.ensures.reads.1 c.in-Ok-specs_in.ensures.reads
 
 pub returns-in-Err-specs_in-clause-reads : goal.returns-in-Err-specs_in-clause-reads
-returns-in-Err-specs_in-clause-reads g c = source_refused _ _ _ c.as_slice.result.now _ _ _ _ _ c.in-Ok.ensures.same c.in-Ok.ensures.reads.1 c.in-Err-specs_in.ensures.reads
+returns-in-Err-specs_in-clause-reads g c =
+    source_refused _ _ _ c.as_slice.result.now _ _ _ _ _ c.in-Ok.ensures.same c.in-Ok.ensures.reads.1 c.in-Err-specs_in.ensures.reads

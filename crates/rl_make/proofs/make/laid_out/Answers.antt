@@ -1,4 +1,5 @@
 use Rattle.rl_make.proofs.WriteLaws.{built_some, built_fits, built_writes, built_names, built_conditions, built_used}
+use Rattle.rl_make.proofs.TwinLaws.{built_runs}
 use Rattle.rl_make.proofs.make.laid_out.Goals as goal
 
 pub numbered-requires : goal.numbered-requires
@@ -19,3 +20,6 @@ returns-clause-conditions c = built_conditions c.args.spec.now c.in_ok-machine.m
 pub returns-clause-actions : goal.returns-clause-actions
 returns-clause-actions c = built_used c.args.spec.now c.args.root.now c.in_ok-machine.machine c.in_ok-tables.tables c.requires.well_formed c.requires.built
     c.in_ok-machine.ensures.machine c.in_ok-machine.ensures.sound c.in_ok-tables.ensures.arrays
+
+pub returns-clause-runs : goal.returns-clause-runs
+returns-clause-runs c = built_runs c.args.spec.now c.args.root.now c.in_ok-machine.machine c.in_ok-tables.tables c.requires.well_formed c.requires.built c.in_ok-machine.ensures.machine c.in_ok-machine.ensures.sound c.in_ok-tables.ensures.shows

@@ -8,9 +8,10 @@ use rl_run::{Call, CallKind, Statement};
 use rl_tables::Tables;
 use rl_types::{ActionId, EntryId, List, Name};
 
-// The names and statements of the machine of these tables.
+/// The names and statements of the machine of tables, as the lines of a run look them up.
 #[derive(Drop)]
 pub struct Names<'a> {
+    /// The tables whose machine it is.
     pub tables: &'a Tables,
 }
 
@@ -25,7 +26,7 @@ fn name_in(names: &List<Name>, place: u32) -> &[u8]
     }
 }
 
-// The name of the action, or of the condition, that is called.
+/// The name of the action, or of the condition, that is called; the empty name where the machine has none.
 #[tactic(auto, unfolding(rl_arrays::specs::TableMachine::machine))]
 pub fn name_called<'a>(tables: &'a Tables, call: &Call) -> &'a [u8]
     ensures { result.now ≡ name_of (machine tables.now) call.now }

@@ -1,0 +1,6 @@
+%%{
+  machine one;
+  action x { }
+  main := 'ab' $x;
+  write data;
+}%%

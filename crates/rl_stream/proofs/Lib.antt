@@ -1,0 +1,5 @@
+pub mod Hosted
+pub mod Joined
+pub mod Blockwise
+pub mod Steps
+pub mod Told

@@ -1,0 +1,5 @@
+pub mod Lines
+pub mod Log
+pub mod Reading
+pub mod Stands
+pub mod Streams
