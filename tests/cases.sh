@@ -3,7 +3,7 @@
 #
 #   tests/cases.sh [GROUP ..]
 #
-# Every case of the groups of sources, of printed files and of alphabets (`whole`, below), or of those that are named, has to
+# Every case of the groups of sources, of printed files, of words and of alphabets (`whole`, below), or of those that are named, has to
 # give exactly its status, its output and its line on the error output. The groups are run by check.py of the cases where it is
 # there. The status is 1 where a case gives something else or check.py fails, and 0 where none does or nothing could be run.
 . "$(dirname "${BASH_SOURCE[0]}")/common.sh"
@@ -31,7 +31,8 @@ run_group() {
 }
 
 whole=(01-one-literal 01-several-literals 02-source-faults 03-names 04-operators 05-actions 06-priorities 07-state-actions
-  08-conditions 09-control 10-scanners 11-sessions 12-printed-2 13-sections 13-sections-2 15-wide)
+  08-conditions 09-control 10-scanners 11-sessions 12-printed-2 13-sections 13-sections-2 14-words-2 15-wide
+  16-made-and-input)
 [ $# -gt 0 ] || set -- "${whole[@]}"
 there=()
 for group; do

@@ -56,7 +56,9 @@ run_case() {
   for file in "$1"/*; do
     case ${file##*/} in words | out | err | status | c.words | c.out | c.err | c.status | m.c | in | why) ;; *) cp -R "$file" "$work/run/" || exit 1 ;; esac
   done
-  (cd "$work/run" && exec "$program" ${words[@]+"${words[@]}"}) </dev/null >"$work/out" 2>"$work/err"
+  local input=/dev/null
+  [ -f "$1/stdin" ] && input=$1/stdin
+  (cd "$work/run" && exec "$program" ${words[@]+"${words[@]}"}) <"$input" >"$work/out" 2>"$work/err"
   status=$?
 }
 
